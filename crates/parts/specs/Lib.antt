@@ -1,0 +1,5 @@
+pub mod Pick
+pub mod Width
+pub mod Table
+pub mod Span
+pub mod Time

@@ -1,0 +1,80 @@
+-- The part table of document 01, one line a part, and its figures.
+use Prim.Native.Nat.{ℕ, _^_}
+use mathlib.Core.List.{List, [], _∷_}
+use lib.Dec.{ltb}
+use lib.ListN.{getD}
+use Rattle.parts.specs.Pick.{pick}
+use Rattle.parts.specs.declared.table.Line.{Line}
+use Rattle.parts.specs.declared.table.Row.{Row}
+use Rattle.parts.specs.declared.table.Found.{Found}
+use Rattle.parts.specs.declared.table.Figure.{Figure}
+
+-- the columns width, cells, block (0: none), device ID, program, sector/block, chip;
+-- beside them U1, U2, two to the compared bits, the sector's and the block's code, and what WP# low protects (0 nothing, 1 the lowest block, 2 the highest)
+abbrev pub line : ℕ → ℕ → ℕ → ℕ → ℕ → ℕ → ℕ → ℕ → ℕ → ℕ → ℕ → ℕ → ℕ → Line
+line w c b d p e h u v l s k x =
+    record { columns = w ∷ c ∷ b ∷ d ∷ p ∷ e ∷ h ∷ []; beside = u ∷ v ∷ l ∷ s ∷ k ∷ x ∷ [] }
+
+abbrev pub lines : List Line
+lines =
+    line 16 8192 4096 0xfff0 14 18000 70000 0x555 0x2aa (2 ^ 11) 0x30 0x50 1
+    ∷ line 8 131072 0 0xb5 14 18000 70000 0x5555 0x2aaa (2 ^ 15) 0x30 0x50 0
+    ∷ line 8 262144 0 0xb6 14 18000 70000 0x5555 0x2aaa (2 ^ 15) 0x30 0x50 0
+    ∷ line 8 524288 0 0xb7 14 18000 70000 0x5555 0x2aaa (2 ^ 15) 0x30 0x50 0
+    ∷ line 16 131072 32768 0x2789 14 18000 70000 0x5555 0x2aaa (2 ^ 15) 0x30 0x50 0
+    ∷ line 16 262144 32768 0x2780 14 18000 70000 0x5555 0x2aaa (2 ^ 15) 0x30 0x50 0
+    ∷ line 16 524288 32768 0x2781 14 18000 70000 0x5555 0x2aaa (2 ^ 15) 0x30 0x50 0
+    ∷ line 16 1048576 32768 0x274b 28 36000 140000 0x5555 0x2aaa (2 ^ 15) 0x30 0x50 1
+    ∷ line 16 1048576 32768 0x274a 28 36000 140000 0x5555 0x2aaa (2 ^ 15) 0x30 0x50 2
+    ∷ line 16 4194304 32768 0x236d 7 18000 40000 0x555 0x2aa (2 ^ 11) 0x50 0x30 1
+    ∷ line 16 4194304 32768 0x236c 7 18000 40000 0x555 0x2aa (2 ^ 11) 0x50 0x30 2
+    ∷ []
+
+-- past the table there is no number: each is read as 0
+abbrev pub noLine : Line
+noLine = record { columns = []; beside = [] }
+
+-- each number of a line by its name
+abbrev pub rowFrom : Line → Row
+rowFrom l =
+    record {
+      width = getD (l .columns) 0 0;
+      cells = getD (l .columns) 1 0;
+      block = getD (l .columns) 2 0;
+      device = getD (l .columns) 3 0;
+      program = getD (l .columns) 4 0;
+      erase = getD (l .columns) 5 0;
+      chip = getD (l .columns) 6 0;
+      u1 = getD (l .beside) 0 0;
+      u2 = getD (l .beside) 1 0;
+      compared = getD (l .beside) 2 0;
+      «sector_code» = getD (l .beside) 3 0;
+      «block_code» = getD (l .beside) 4 0;
+      protected = getD (l .beside) 5 0;
+    }
+
+-- the line of a part
+abbrev pub lineOf : ℕ → Line
+lineOf part = getD lines part noLine
+
+-- the row of a part
+unfoldable pub rowOf : ℕ → Row
+rowOf part = rowFrom (lineOf part)
+
+-- refusal 1: a part above 10
+unfoldable pub partRefusal : ℕ → ℕ
+partRefusal part = pick (ltb 10 part) 1 0
+
+-- the row by the part's number
+abbrev pub foundOf : ℕ → Found
+foundOf part = record { answer = partRefusal part; row = rowOf part }
+
+abbrev pub figure : ℕ → ℕ → Figure
+figure n v = record { answer = n; value = v }
+
+-- the figure of a part in a column, from Width, 0, to Chip, 6; refusals 1, 15
+unfoldable pub figureOf : ℕ → ℕ → Figure
+figureOf part column =
+    pick (ltb 10 part) (figure 1 0)
+    (pick (ltb 6 column) (figure 15 0)
+    (figure 0 (getD (lineOf part .columns) column 0)))

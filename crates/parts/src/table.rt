@@ -1,0 +1,166 @@
+// The part table of document 01, a row a part, and its figures.
+ghost use mathlib.Core.Path.{_≡_};
+ghost use Rattle.parts.specs.Table.{figureOf, foundOf, rowFrom};
+
+// A part's line of the table: the columns Width, Cells, Block (0: none), Device ID, Program,
+// Sector/block and Chip (times in µs), and the facts beside them: U1, U2 and how many addresses
+// their compared low bits tell apart, the sector's and the block's code, and the end that WP# low
+// protects (0 neither, 1 the lowest block, 2 the highest).
+pub struct Line {
+    pub columns: [u32; 7],
+    pub beside: [u32; 6],
+}
+
+// A part, each number by its name.
+pub struct Row {
+    pub width: u32,
+    pub cells: u32,
+    pub block: u32,
+    pub device: u32,
+    pub program: u32,
+    pub erase: u32,
+    pub chip: u32,
+    pub u1: u32,
+    pub u2: u32,
+    pub compared: u32,
+    pub sector_code: u32,
+    pub block_code: u32,
+    pub protected: u32,
+}
+
+// What the table answers: 0 or the refusal, and the row.
+pub struct Found {
+    pub answer: u32,
+    pub row: Row,
+}
+
+// A figure of the table: 0 or the refusal, and the number.
+pub struct Figure {
+    pub answer: u32,
+    pub value: u32,
+}
+
+const LINES: [Line; 11] = [
+    // 0 bench (house)
+    Line {
+        columns: [16, 8192, 4096, 0xfff0, 14, 18000, 70000],
+        beside: [0x555, 0x2aa, 2048, 0x30, 0x50, 1],
+    },
+    // 1 SF010A
+    Line {
+        columns: [8, 131072, 0, 0xb5, 14, 18000, 70000],
+        beside: [0x5555, 0x2aaa, 32768, 0x30, 0x50, 0],
+    },
+    // 2 SF020A
+    Line {
+        columns: [8, 262144, 0, 0xb6, 14, 18000, 70000],
+        beside: [0x5555, 0x2aaa, 32768, 0x30, 0x50, 0],
+    },
+    // 3 SF040
+    Line {
+        columns: [8, 524288, 0, 0xb7, 14, 18000, 70000],
+        beside: [0x5555, 0x2aaa, 32768, 0x30, 0x50, 0],
+    },
+    // 4 VF200A
+    Line {
+        columns: [16, 131072, 32768, 0x2789, 14, 18000, 70000],
+        beside: [0x5555, 0x2aaa, 32768, 0x30, 0x50, 0],
+    },
+    // 5 VF400A
+    Line {
+        columns: [16, 262144, 32768, 0x2780, 14, 18000, 70000],
+        beside: [0x5555, 0x2aaa, 32768, 0x30, 0x50, 0],
+    },
+    // 6 VF800A
+    Line {
+        columns: [16, 524288, 32768, 0x2781, 14, 18000, 70000],
+        beside: [0x5555, 0x2aaa, 32768, 0x30, 0x50, 0],
+    },
+    // 7 WF1601
+    Line {
+        columns: [16, 1048576, 32768, 0x274b, 28, 36000, 140000],
+        beside: [0x5555, 0x2aaa, 32768, 0x30, 0x50, 1],
+    },
+    // 8 WF1602
+    Line {
+        columns: [16, 1048576, 32768, 0x274a, 28, 36000, 140000],
+        beside: [0x5555, 0x2aaa, 32768, 0x30, 0x50, 2],
+    },
+    // 9 VF6401B
+    Line {
+        columns: [16, 4194304, 32768, 0x236d, 7, 18000, 40000],
+        beside: [0x555, 0x2aa, 2048, 0x50, 0x30, 1],
+    },
+    // 10 VF6402B
+    Line {
+        columns: [16, 4194304, 32768, 0x236c, 7, 18000, 40000],
+        beside: [0x555, 0x2aa, 2048, 0x50, 0x30, 2],
+    },
+];
+
+// Each number of a line by its name.
+fn named(line: Line) -> Row
+    ensures { λ r. ⌜ r ≡ rowFrom line ⌝ }
+{
+    let c = line.columns;
+    let b = line.beside;
+    Row {
+        width: c[0],
+        cells: c[1],
+        block: c[2],
+        device: c[3],
+        program: c[4],
+        erase: c[5],
+        chip: c[6],
+        u1: b[0],
+        u2: b[1],
+        compared: b[2],
+        sector_code: b[3],
+        block_code: b[4],
+        protected: b[5],
+    }
+}
+
+// The row of a part: 1 for a part above 10.
+pub fn part_row(part: u32) -> Found
+    ensures { λ r. ⌜ r ≡ foundOf part ⌝ }
+{
+    if 10 < part {
+        let none = Line {
+            columns: [0; 7],
+            beside: [0; 6],
+        };
+        return Found {
+            answer: 1,
+            row: named(none),
+        };
+    }
+    Found {
+        answer: 0,
+        row: named(LINES[part as usize]),
+    }
+}
+
+// The figure of a part in a column, 0 Width to 6 Chip: 1 for a part above 10, 15 for a column above 6.
+pub fn part_figure(part: u32, column: u32) -> Figure
+    ensures { λ r. ⌜ r ≡ figureOf part column ⌝ }
+{
+    if 10 < part {
+        return Figure {
+            answer: 1,
+            value: 0,
+        };
+    }
+    if 6 < column {
+        return Figure {
+            answer: 15,
+            value: 0,
+        };
+    }
+    let line = LINES[part as usize];
+    let columns = line.columns;
+    Figure {
+        answer: 0,
+        value: columns[column as usize],
+    }
+}
