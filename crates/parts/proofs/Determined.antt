@@ -7,8 +7,8 @@ use Rattle.parts.proofs.width.blank.Kinds as blank-kinds
 use Rattle.parts.proofs.width.blank.Reads as blank-reads
 use Rattle.parts.proofs.table.part_row.Kinds as part-row-kinds
 use Rattle.parts.proofs.table.part_row.Reads as part-row-reads
-use Rattle.parts.proofs.table.part_figure.Kinds as part-figure-kinds
-use Rattle.parts.proofs.table.part_figure.Reads as part-figure-reads
+use Rattle.parts.proofs.figure.part_figure.Kinds as part-figure-kinds
+use Rattle.parts.proofs.figure.part_figure.Reads as part-figure-reads
 use Rattle.parts.proofs.span.Span.holds.Kinds as holds-kinds
 use Rattle.parts.proofs.span.Span.holds.Reads as holds-reads
 use Rattle.parts.proofs.table.Row.sector_size.Kinds as sector-size-kinds

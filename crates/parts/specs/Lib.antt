@@ -1,5 +1,6 @@
 pub mod Pick
 pub mod Width
 pub mod Table
+pub mod Figures
 pub mod Span
 pub mod Time

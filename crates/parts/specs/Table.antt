@@ -1,4 +1,4 @@
--- The part table of document 01, one line a part, and its figures.
+-- The part table of document 01, one line a part.
 use Prim.Native.Nat.{ℕ, _^_}
 use mathlib.Core.List.{List, [], _∷_}
 use lib.Dec.{ltb}
@@ -7,7 +7,6 @@ use Rattle.parts.specs.Pick.{pick}
 use Rattle.parts.specs.declared.table.Line.{Line}
 use Rattle.parts.specs.declared.table.Row.{Row}
 use Rattle.parts.specs.declared.table.Found.{Found}
-use Rattle.parts.specs.declared.table.Figure.{Figure}
 
 -- the columns width, cells, block (0: none), device ID, program, sector/block, chip;
 -- beside them U1, U2, two to the compared bits, the sector's and the block's code, and what WP# low protects (0 nothing, 1 the lowest block, 2 the highest)
@@ -68,13 +67,3 @@ partRefusal part = pick (ltb 10 part) 1 0
 -- the row by the part's number
 abbrev pub foundOf : ℕ → Found
 foundOf part = record { answer = partRefusal part; row = rowOf part }
-
-abbrev pub figure : ℕ → ℕ → Figure
-figure n v = record { answer = n; value = v }
-
--- the figure of a part in a column, from Width, 0, to Chip, 6; refusals 1, 15
-unfoldable pub figureOf : ℕ → ℕ → Figure
-figureOf part column =
-    pick (ltb 10 part) (figure 1 0)
-    (pick (ltb 6 column) (figure 15 0)
-    (figure 0 (getD (lineOf part .columns) column 0)))

@@ -1,15 +1,16 @@
 // The parts of document 01: the part table, a cell's value and blank by the width, the ranges of an address, and times.
+mod figure;
 mod span;
 mod table;
 mod time;
 mod width;
 
+pub use figure::Figure;
+pub use figure::part_figure;
 pub use span::Span;
-pub use table::Figure;
 pub use table::Found;
 pub use table::Line;
 pub use table::Row;
-pub use table::part_figure;
 pub use table::part_row;
 pub use time::rounded_up;
 pub use width::blank;

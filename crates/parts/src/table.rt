@@ -1,6 +1,6 @@
-// The part table of document 01, a row a part, and its figures.
+// The part table of document 01, a line a part.
 ghost use mathlib.Core.Path.{_≡_};
-ghost use Rattle.parts.specs.Table.{figureOf, foundOf, rowFrom};
+ghost use Rattle.parts.specs.Table.{foundOf, rowFrom};
 
 // A part's line of the table: the columns Width, Cells, Block (0: none), Device ID, Program,
 // Sector/block and Chip (times in µs), and the facts beside them: U1, U2 and how many addresses
@@ -32,12 +32,6 @@ pub struct Row {
 pub struct Found {
     pub answer: u32,
     pub row: Row,
-}
-
-// A figure of the table: 0 or the refusal, and the number.
-pub struct Figure {
-    pub answer: u32,
-    pub value: u32,
 }
 
 const LINES: [Line; 11] = [
@@ -138,29 +132,5 @@ pub fn part_row(part: u32) -> Found
     Found {
         answer: 0,
         row: named(LINES[part as usize]),
-    }
-}
-
-// The figure of a part in a column, 0 Width to 6 Chip: 1 for a part above 10, 15 for a column above 6.
-pub fn part_figure(part: u32, column: u32) -> Figure
-    ensures { λ r. ⌜ r ≡ figureOf part column ⌝ }
-{
-    if 10 < part {
-        return Figure {
-            answer: 1,
-            value: 0,
-        };
-    }
-    if 6 < column {
-        return Figure {
-            answer: 15,
-            value: 0,
-        };
-    }
-    let line = LINES[part as usize];
-    let columns = line.columns;
-    Figure {
-        answer: 0,
-        value: columns[column as usize],
     }
 }
