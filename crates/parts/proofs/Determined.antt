@@ -5,6 +5,10 @@ use Rattle.parts.proofs.width.value.Kinds as value-kinds
 use Rattle.parts.proofs.width.value.Reads as value-reads
 use Rattle.parts.proofs.width.blank.Kinds as blank-kinds
 use Rattle.parts.proofs.width.blank.Reads as blank-reads
+use Rattle.parts.proofs.width.fits.Kinds as fits-kinds
+use Rattle.parts.proofs.width.fits.Reads as fits-reads
+use Rattle.parts.proofs.table.Row.has_command.Kinds as has-command-kinds
+use Rattle.parts.proofs.table.Row.has_command.Reads as has-command-reads
 use Rattle.parts.proofs.table.part_row.Kinds as part-row-kinds
 use Rattle.parts.proofs.table.part_row.Reads as part-row-reads
 use Rattle.parts.proofs.figure.part_figure.Kinds as part-figure-kinds
@@ -56,3 +60,9 @@ time-unique κs a x y s t p q = p ∙ sym q
 
 pub rounded-up-unique : Unique rounded-up-kinds.ps rounded-up-kinds.r rounded-up-reads.Post
 rounded-up-unique κs a x y s t p q = p ∙ sym q
+
+pub fits-unique : Unique fits-kinds.ps fits-kinds.r fits-reads.Post
+fits-unique κs a x y s t p q = p ∙ sym q
+
+pub has-command-unique : Unique has-command-kinds.ps has-command-kinds.r has-command-reads.Post
+has-command-unique κs a x y s t p q = p ∙ sym q

@@ -17,6 +17,16 @@ pub both : (a b : Bool) → pick a b false ≡ true → (a ≡ true) × (b ≡ t
 both true b e = (refl, e)
 both false b e = apart e
 
+-- a test that has to fail, and what is left
+pub unless : (a b : Bool) → pick a false b ≡ true → (a ≡ false) × (b ≡ true)
+unless true b e = apart e
+unless false b e = (refl, e)
+
+-- what is asked only where a test holds
+pub given : (a b : Bool) → a ≡ true → pick a b true ≡ true → b ≡ true
+given true b h e = e
+given false b h e = apart h
+
 -- a choice by cases of its test
 pub split : {A : Type 0} (P : A → Type 0) (b : Bool) (x y : A) → (b ≡ true → P x) → (b ≡ false → P y) → P (pick b x y)
 split P true x y f g = f refl

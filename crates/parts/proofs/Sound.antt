@@ -12,7 +12,7 @@ use Rattle.parts.specs.Table.{lines, noLine, rowFrom, rowOf, partRefusal
 use Rattle.parts.specs.Span.{hasBlocks}
 use Rattle.parts.specs.Time.{times, timeOf}
 use Rattle.parts.specs.declared.table.Row.{Row}
-use Rattle.parts.proofs.Every.{apart, both, every, at}
+use Rattle.parts.proofs.Every.{unless, given, every, at}
 
 -- the known parts are those of the table
 pub known : (n : ℕ) → partRefusal n ≡ 0 → n ≤ 10
@@ -27,14 +27,6 @@ known n e = ltb-false 10 n (not-one (ltb 10 n) e)
 rule : (f : Row → Bool) → every (λ l. f (rowFrom l)) lines ≡ true → (n : ℕ) → partRefusal n ≡ 0 → f (rowOf n) ≡ true
 unfolding rowOf
 rule f e n k = at (λ l. f (rowFrom l)) lines noLine e n (omega (arith, known n k))
-
-given : (a b : Bool) → a ≡ true → pick a b true ≡ true → b ≡ true
-given true b h e = e
-given false b h e = apart h
-
-unless : (b : Bool) → pick b false true ≡ true → b ≡ false
-unless true e = apart e
-unless false e = refl
 
 module _ (n : ℕ) (k : partRefusal n ≡ 0) where
   pub width-least : 8 ≤ rowOf n .width
@@ -51,6 +43,9 @@ module _ (n : ℕ) (k : partRefusal n ≡ 0) where
 
   pub device-fits : rowOf n .device < 2 ^ rowOf n .width
   device-fits = ltb-true _ _ (rule (λ r. ltb (r .device) (2 ^ r .width)) refl n k)
+
+  pub device-word : rowOf n .device < 65536
+  device-word = ltb-true _ _ (rule (λ r. ltb (r .device) 65536) refl n k)
 
   -- cells are whole sectors and, where there are blocks, whole blocks; blocks are whole sectors
   pub cells-sectors : rowOf n .cells % sectorSize (rowOf n .width) ≡ 0
@@ -78,17 +73,17 @@ module _ (n : ℕ) (k : partRefusal n ≡ 0) where
 
   -- the unlock addresses differ, and are addresses of the part that the compared bits tell apart from all others
   pub unlock-differ : rowOf n .u1 ≡ rowOf n .u2 → ⊥
-  unlock-differ = eqb-false _ _ (unless _ (rule (λ r. pick (eqb (r .u1) (r .u2)) false true) refl n k))
+  unlock-differ = eqb-false _ _ (unless _ true (rule (λ r. pick (eqb (r .u1) (r .u2)) false true) refl n k) .0)
 
   -- the codes of the erases are bytes, and no two are alike
   pub codes-differ : rowOf n .«sector_code» ≡ rowOf n .«block_code» → ⊥
-  codes-differ = eqb-false _ _ (unless _ (rule (λ r. pick (eqb (r .«sector_code») (r .«block_code»)) false true) refl n k))
+  codes-differ = eqb-false _ _ (unless _ true (rule (λ r. pick (eqb (r .«sector_code») (r .«block_code»)) false true) refl n k) .0)
 
   pub sector-not-chip : rowOf n .«sector_code» ≡ 0x10 → ⊥
-  sector-not-chip = eqb-false _ _ (unless _ (rule (λ r. pick (eqb (r .«sector_code») 0x10) false true) refl n k))
+  sector-not-chip = eqb-false _ _ (unless _ true (rule (λ r. pick (eqb (r .«sector_code») 0x10) false true) refl n k) .0)
 
   pub block-not-chip : rowOf n .«block_code» ≡ 0x10 → ⊥
-  block-not-chip = eqb-false _ _ (unless _ (rule (λ r. pick (eqb (r .«block_code») 0x10) false true) refl n k))
+  block-not-chip = eqb-false _ _ (unless _ true (rule (λ r. pick (eqb (r .«block_code») 0x10) false true) refl n k) .0)
 
   pub sector-byte : rowOf n .«sector_code» < 256
   sector-byte = ltb-true _ _ (rule (λ r. ltb (r .«sector_code») 256) refl n k)

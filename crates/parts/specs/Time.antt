@@ -1,10 +1,16 @@
--- Times: the table time of a command, and how many polls it takes.
+-- Commands: those a part has, their table times, and how many polls they take.
 use Prim.Native.Nat.{ℕ, _+_, _-_, _/_}
 use mathlib.Core.List.{List, [], _∷_}
-use lib.Dec.{eqb}
+use mathlib.Core.Bool.{Bool, true, false}
+use lib.Dec.{eqb, ltb}
 use lib.ListN.{getD}
 use Rattle.parts.specs.Pick.{pick}
+use Rattle.parts.specs.Span.{hasBlocks}
 use Rattle.parts.specs.declared.table.Row.{Row}
+
+-- a part has a command: none above 3, and block only where it has blocks
+unfoldable pub hasCommand : Row → ℕ → Bool
+hasCommand r command = pick (ltb 3 command) false (pick (eqb command 2) (hasBlocks r) true)
 
 -- the times of the commands, 0 program, 1 sector, 2 block, 3 chip
 abbrev pub times : Row → List ℕ

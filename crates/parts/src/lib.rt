@@ -14,4 +14,5 @@ pub use table::Row;
 pub use table::part_row;
 pub use time::rounded_up;
 pub use width::blank;
+pub use width::fits;
 pub use width::value;

@@ -1,6 +1,6 @@
-// A cell's value and blank, by the width of a part.
+// A cell's value, blank, and the words that fit, by the width of a part.
 ghost use mathlib.Core.Path.{_≡_};
-ghost use Rattle.parts.specs.Width.{blankOf, valueOf};
+ghost use Rattle.parts.specs.Width.{blankOf, fitsIn, valueOf};
 
 // The value of the word x: its low bits, as many as the width.
 pub fn value(width: u32, x: u16) -> u16
@@ -17,4 +17,11 @@ pub fn blank(width: u32) -> u16
     ensures { λ r. ⌜ r ≡ valueOf 16 (blankOf width) ⌝ }
 {
     value(width, 0xffff)
+}
+
+// Whether x is a value of the width: not above blank.
+pub fn fits(width: u32, x: u16) -> bool
+    ensures { λ r. ⌜ r ≡ fitsIn width x ⌝ }
+{
+    x <= blank(width)
 }

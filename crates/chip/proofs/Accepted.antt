@@ -1,0 +1,128 @@
+-- What is known of an accepted cycle and of a state in range.
+use Prim.Native.Nat.{ℕ, suc, _+_, _≤_, _<_}
+use mathlib.Core.Path.{_≡_, refl, sym, ap, _∙_}
+use mathlib.Core.Bool.{Bool, true, false}
+use native.Mathlib.Omega.{arith}
+use borrow.Author.Tests.{ltb-true, ltb-false, lt-ltb, le-ltb, eqb-true, eq-eqb}
+use lib.Dec.{eqb, ltb}
+use Rattle.parts.specs.Pick.{pick}
+use Rattle.parts.specs.Width.{fitsIn}
+use Rattle.parts.specs.Table.{rowOf, partRefusal}
+use Rattle.parts.specs.Span.{hasBlocks, sectorOf, blockOf}
+use Rattle.parts.specs.Time.{hasCommand, timeOf}
+use Rattle.parts.specs.declared.span.Span.{Span}
+use Rattle.parts.specs.declared.table.Row.{Row}
+use Rattle.parts.proofs.Every.{apart, both, unless, given, split}
+use Rattle.parts.proofs.Sound.{width-most, u1-compared, device-word}
+use Rattle.parts.proofs.Ranges.{sector-fits, block-fits}
+use Rattle.chip.specs.declared.device.Mode.{Mode}
+use Rattle.chip.specs.declared.device.Mode.the-variants.{ReadMode, Identification}
+use Rattle.chip.specs.declared.device.Operation.{Operation}
+use Rattle.chip.specs.declared.device.Device.{Device}
+use Rattle.chip.specs.declared.cycle.Action.{Action}
+use Rattle.chip.specs.declared.cycle.Action.the-variants.{Read, Write, Idle, Cut}
+use Rattle.chip.specs.Device.{busy, reads, validOperation, inRange}
+use Rattle.chip.specs.Operation.{cellsOf}
+use Rattle.chip.specs.Cycle.{actionRefusal, cycleRefusal}
+use Rattle.chip.specs.Sized.{Sized, Runs}
+
+-- a choice that is 0 where the other branch is not
+pub zero-left : (b : Bool) (x k : ℕ) → pick b x (suc k) ≡ 0 → (b ≡ true) × (x ≡ 0)
+zero-left true x k e = (refl, e)
+zero-left false x k e = absurd (omega arith)
+
+-- a refusal in front
+none-first : (x y : ℕ) → pick (ltb 0 x) x y ≡ 0 → (x ≡ 0) × (y ≡ 0)
+none-first x y = split (λ (n : ℕ). n ≡ 0 → (x ≡ 0) × (y ≡ 0)) (ltb 0 x) x y (λ l e. absurd (no (ltb-true 0 x l) e)) (λ l e. (zero (ltb-false 0 x l), e))
+  where
+    no : 0 < x → x ≡ 0 → ⊥
+    no h e = omega arith
+
+    zero : x ≤ 0 → x ≡ 0
+    zero h = omega arith
+
+-- ---- an accepted cycle
+pub record Accepted (part n : ℕ) (d : Device) (a : Action) : Type 0 where
+  pub known : partRefusal part ≡ 0
+  pub whole : n ≡ rowOf part .cells
+  pub state : inRange (rowOf part) d ≡ true
+  pub reach : actionRefusal (rowOf part) a ≡ 0
+
+pub accepted : (part n : ℕ) (d : Device) (a : Action) → cycleRefusal part n d a ≡ 0 → Accepted part n d a
+unfolding cycleRefusal
+accepted part n d a e =
+    let f = none-first _ _ e in
+    let g = zero-left _ _ 1 (f .1) in
+    let h = zero-left _ _ 4 (g .1) in
+    record { known = f .0; whole = eqb-true _ _ (g .0); state = h .0; reach = h .1 }
+
+pub accepting : (part n : ℕ) (d : Device) (a : Action) → Accepted part n d a → cycleRefusal part n d a ≡ 0
+unfolding cycleRefusal
+accepting part n d a w = simp (w .known, eq-eqb _ _ (w .whole), w .state) (w .reach)
+
+pub read-there : (r : Row) (a : ℕ) → actionRefusal r (Read a) ≡ 0 → a < r .cells
+unfolding actionRefusal
+read-there r a e = ltb-true _ _ (zero-left _ 0 2 e .0)
+
+pub write-there : (r : Row) (a x : ℕ) → actionRefusal r (Write a x) ≡ 0 → (a < r .cells) × (fitsIn (r .width) x ≡ true)
+unfolding actionRefusal
+write-there r a x e = let w = zero-left _ _ 2 e in (ltb-true _ _ (w .0), zero-left _ 0 3 (w .1) .0)
+
+-- ---- a state in range with an operation pending
+pub record Valid (r : Row) (d : Device) : Type 0 where
+  pub command : hasCommand r (d .running .kind) ≡ true
+  pub time : d .running .left ≤ timeOf r (d .running .kind)
+  pub there : d .running .address < r .cells
+  pub fits : fitsIn (r .width) (d .running .«data») ≡ true
+  pub stage : d .stage ≡ 0
+  pub mode : d .mode ≡ ReadMode
+
+read-mode : (m : Mode) → reads m ≡ true → m ≡ ReadMode
+read-mode ReadMode e = refl
+read-mode Identification e = apart e
+
+pub pending : (r : Row) (d : Device) → inRange r d ≡ true → busy d ≡ true → Valid r d
+unfolding inRange validOperation
+pending r d e b =
+    let rest = pick (ltb 0 (d .stage)) false (pick (reads (d .mode)) (validOperation r (d .running)) false) in
+    let f = unless _ _ (given (busy d) rest b (unless (ltb 6 (d .stage)) (pick (busy d) rest true) e .1)) in
+    let g = both _ _ (f .1) in
+    let h = both _ _ (g .1) in
+    let i = unless _ _ (h .1) in
+    let j = both _ _ (i .1) in
+    record {
+      command = h .0;
+      time = ltb-false _ _ (i .0);
+      there = ltb-true _ _ (j .0);
+      fits = j .1;
+      stage = zero (ltb-false _ _ (f .0));
+      mode = read-mode (d .mode) (g .0);
+    }
+  where
+    zero : d .stage ≤ 0 → d .stage ≡ 0
+    zero h = omega arith
+
+pub valid-range : (r : Row) (d : Device) → Valid r d → inRange r d ≡ true
+unfolding inRange validOperation
+valid-range r d v =
+    simp (v .stage, v .mode, v .command, le-ltb _ _ (v .time), lt-ltb _ _ (v .there), v .fits) (split (λ (b : Bool). b ≡ true) (busy d) true true (λ _. refl) (λ _. refl))
+
+-- ---- a known part
+pub sized : (n : ℕ) → partRefusal n ≡ 0 → Sized (rowOf n)
+sized n k = record { narrow = width-most n k; compares = omega (arith, u1-compared n k); identifies = device-word n k }
+
+-- the cells of an operation lie among the part's
+pub within-cells : (n : ℕ) → partRefusal n ≡ 0 → (o : Operation) → hasCommand (rowOf n) (o .kind) ≡ true → o .address < rowOf n .cells
+    → cellsOf (rowOf n) o .first + cellsOf (rowOf n) o .count ≤ rowOf n .cells
+unfolding cellsOf hasCommand
+within-cells n k o c t =
+    split Within (eqb (o .kind) 0) _ _ (λ _. omega arith)
+    (λ _. split Within (eqb (o .kind) 1) _ _ (λ _. sector-fits n k (o .address) t)
+    (λ _. split Within (eqb (o .kind) 2) _ _ (λ e. block-fits n k (o .address) t (given (eqb (o .kind) 2) (hasBlocks (rowOf n)) e (unless (ltb 3 (o .kind)) (pick (eqb (o .kind) 2) (hasBlocks (rowOf n)) true) c .1))) (λ _. omega arith)))
+  where
+    Within : Span → Type 0
+    Within s = s .first + s .count ≤ rowOf n .cells
+
+pub runs : (n : ℕ) → partRefusal n ≡ 0 → (d : Device) (m : ℕ) → inRange (rowOf n) d ≡ true → m ≡ rowOf n .cells → Runs (rowOf n) d m
+runs n k d m e w =
+    record { within = λ b. let v = pending (rowOf n) d e b in omega (arith, within-cells n k (d .running) (v .command) (v .there)) }

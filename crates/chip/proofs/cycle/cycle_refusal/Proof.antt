@@ -1,0 +1,55 @@
+-- `chip::cycle::cycle_refusal` meets its contract.
+use mathlib.Core.Path.{ap, sym, _∙_}
+use borrow.Author.Needs.{needs}
+use borrow.Author.Tests.{eq-eqb, ne-eqb, lt-ltb, le-ltb}
+use Rattle.parts.specs.declared.table.Found.{Found}
+use Rattle.chip.specs.Cycle.{cycleRefusal}
+use Rattle.chip.proofs.cycle.cycle_refusal.Statement.{statement}
+use Rattle.chip.proofs.cycle.cycle_refusal.Tie as tie
+
+part-row-requires : tie.Need-part-row-requires
+part-row-requires c κs = search needs
+
+returns : tie.Need-returns
+unfolding cycleRefusal
+returns c = let e = ap (λ (f : Found). f .answer) (c .before .part-row .ensures) in simp (sym e, lt-ltb _ _ (c .if1 .taken))
+
+cast-if2 : tie.Need-cast-if2
+cast-if2 c = search needs
+
+in-range-requires : tie.Need-in-range-requires
+in-range-requires c κs = search needs
+
+action-refusal-requires : tie.Need-action-refusal-requires
+action-refusal-requires c κs = search needs
+
+returns-2 : tie.Need-returns-2
+unfolding cycleRefusal
+returns-2 c = let e = ap (λ (f : Found). f .answer) (c .before .before .before .before .before .before .before .part-row .ensures) in
+    let r = ap (λ (f : Found). f .row) (c .before .before .before .before .before .before .before .part-row .ensures) in
+    simp (sym e, sym r, le-ltb _ _ (c .before .before .before .before .before .before .if1 .left), eq-eqb _ _ (c .before .before .before .if2 .taken), sym (c .before .before .in-range .ensures) ∙ c .before .if3 .taken) (c .action-refusal .ensures)
+
+returns-3 : tie.Need-returns-3
+unfolding cycleRefusal
+returns-3 c = let e = ap (λ (f : Found). f .answer) (c .before .before .before .before .before .before .part-row .ensures) in
+    let r = ap (λ (f : Found). f .row) (c .before .before .before .before .before .before .part-row .ensures) in
+    simp (sym e, sym r, le-ltb _ _ (c .before .before .before .before .before .if1 .left), eq-eqb _ _ (c .before .before .if2 .taken), sym (c .before .in-range .ensures) ∙ c .if3 .left)
+
+returns-4 : tie.Need-returns-4
+unfolding cycleRefusal
+returns-4 c = let e = ap (λ (f : Found). f .answer) (c .before .before .before .before .part-row .ensures) in
+    let r = ap (λ (f : Found). f .row) (c .before .before .before .before .part-row .ensures) in
+    simp (sym e, sym r, le-ltb _ _ (c .before .before .before .if1 .left), ne-eqb _ _ (c .if2 .left))
+
+pub cycle-refusal-spec : {M : Type 1} → statement M
+cycle-refusal-spec =
+    tie.close
+    (tie.spec
+    part-row-requires
+    returns
+    cast-if2
+    in-range-requires
+    action-refusal-requires
+    returns-2
+    returns-3
+    returns-4)

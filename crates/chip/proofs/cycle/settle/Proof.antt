@@ -1,0 +1,48 @@
+-- `chip::cycle::settle` meets its contract.
+use mathlib.Core.Path.{refl}
+use borrow.Author.Needs.{needs}
+use borrow.Author.Tests.{lt-ltb, le-ltb}
+use Rattle.chip.specs.Cycle.{settledOf}
+use Rattle.chip.proofs.cycle.settle.Statement.{statement}
+use Rattle.chip.proofs.cycle.settle.Tie as tie
+
+returns : tie.Need-returns
+unfolding settledOf
+returns c = simp (le-ltb _ _ (c .if1 .taken)) (refl, refl)
+
+sub-with-left : tie.Need-sub-with-left
+sub-with-left c = search needs
+
+with-left-requires : tie.Need-with-left-requires
+with-left-requires c κs = search needs
+
+returns-2 : tie.Need-returns-2
+unfolding settledOf
+returns-2 c = simp (lt-ltb 0 _ (c .before .before .if1 .left), lt-ltb _ _ (c .before .if2 .taken)) (c .with-left .ensures, refl)
+
+complete-requires : tie.Need-complete-requires
+unfolding settledOf
+complete-requires c κs = (c .before .before .before .before .before .pre .1 .within (lt-ltb 0 _ (c .before .before .if1 .left)), c .before .before .before .before .before .pre .0)
+
+no-operation-requires : tie.Need-no-operation-requires
+no-operation-requires c κs = search needs
+
+same-length : tie.Need-same-length
+same-length c = search needs
+
+returns-3 : tie.Need-returns-3
+unfolding settledOf
+returns-3 c = simp (lt-ltb 0 _ (c .before .before .before .before .before .before .if1 .left), le-ltb _ _ (c .before .before .before .before .before .if2 .left), c .no-operation .ensures) (refl, c .before .before .before .complete .ensures)
+
+pub settle-spec : {M : Type 1} → statement M
+settle-spec =
+    tie.close
+    (tie.spec
+    returns
+    sub-with-left
+    with-left-requires
+    returns-2
+    complete-requires
+    no-operation-requires
+    same-length
+    returns-3)

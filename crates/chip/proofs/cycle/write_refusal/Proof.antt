@@ -1,0 +1,25 @@
+-- `chip::cycle::write_refusal` meets its contract.
+use mathlib.Core.Path.{sym, _∙_}
+use borrow.Author.Needs.{needs}
+use Rattle.chip.specs.Cycle.{actionRefusal}
+use Rattle.parts.proofs.Rules.{tests}
+use Rattle.chip.proofs.cycle.write_refusal.Statement.{statement}
+use Rattle.chip.proofs.cycle.write_refusal.Tie as tie
+
+fits-requires : tie.Need-fits-requires
+fits-requires c κs = search needs
+
+returns : tie.Need-returns
+unfolding actionRefusal
+returns c = simp (sym (c .before .fits2 .ensures) ∙ c .if2 .taken) (search tests)
+
+returns-2 : tie.Need-returns-2
+unfolding actionRefusal
+returns-2 c = simp (sym (c .before .fits2 .ensures) ∙ c .if2 .left) (search tests)
+
+returns-3 : tie.Need-returns-3
+unfolding actionRefusal
+returns-3 c = search tests
+
+pub write-refusal-spec : {M : Type 1} → statement M
+write-refusal-spec = tie.close (tie.spec fits-requires returns returns-2 returns-3)

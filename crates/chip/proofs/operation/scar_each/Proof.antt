@@ -1,0 +1,67 @@
+-- `chip::operation::scar_each` meets its contract.
+use Prim.Native.Nat.{_≤_, _-_}
+use mathlib.Core.Path.{_≡_, _∙_}
+use lib.ListN.{length}
+use lib.Bits.{bitOr}
+use borrow.Author.Needs.{needs}
+use Rattle.parts.specs.Width.{valueOf}
+use Rattle.chip.proofs.Over.{reached, reached-step, reached-all}
+use Rattle.chip.proofs.operation.scar_each.Statement.{statement}
+use Rattle.chip.proofs.operation.scar_each.Tie as tie
+
+abbrev Inv-loop : tie.InvT-loop
+Inv-loop cells₀ width scar i₀ cells i = (i ≤ length cells₀) × ((length cells ≡ length cells₀) × (cells ≡ reached (λ x. bitOr (valueOf width x) scar) i cells₀))
+
+abbrev μ-loop : tie.MeasureT-loop
+μ-loop cells₀ width scar i₀ cells i = length cells₀ - i
+
+loop-holds : tie.Need-loop-holds Inv-loop μ-loop
+loop-holds c = search needs
+
+mul-value : tie.Need-mul-value Inv-loop μ-loop
+mul-value c = search needs
+
+slice-read-value : tie.Need-slice-read-value Inv-loop μ-loop
+slice-read-value c = search needs
+
+value-requires : tie.Need-value-requires Inv-loop μ-loop
+value-requires c κs = search needs
+
+mul-cells : tie.Need-mul-cells Inv-loop μ-loop
+mul-cells c = search needs
+
+slice-write-cells : tie.Need-slice-write-cells Inv-loop μ-loop
+slice-write-cells c = search needs
+
+add-i : tie.Need-add-i Inv-loop μ-loop
+add-i c = search needs
+
+loop-less : tie.Need-loop-less Inv-loop μ-loop
+loop-less c = search needs
+
+loop-again : tie.Need-loop-again Inv-loop μ-loop
+loop-again c = (search needs, (search needs, rw (c .value .ensures) (reached-step (λ x. bitOr (valueOf (c .before .before .before .before .before .args .width) x) (c .before .before .before .before .before .args .scar)) _ (c .before .before .before .before .before .args .cells .now) (c .before .before .before .loop .i) (c .before .before .before .loop .inv .1 .1) (search needs))))
+
+same-length : tie.Need-same-length Inv-loop μ-loop
+same-length c = search needs
+
+returns : tie.Need-returns Inv-loop μ-loop
+returns c = c .before .loop .inv .1 .1 ∙ reached-all (λ x. bitOr (valueOf (c .before .before .before .args .width) x) (c .before .before .before .args .scar)) (c .before .before .before .args .cells .now) (c .before .loop .i) (search needs)
+
+pub scar-each-spec : {M : Type 1} → statement M
+scar-each-spec =
+    tie.close
+    (tie.spec
+    Inv-loop
+    μ-loop
+    loop-holds
+    mul-value
+    slice-read-value
+    value-requires
+    mul-cells
+    slice-write-cells
+    add-i
+    loop-less
+    loop-again
+    same-length
+    returns)

@@ -1,0 +1,49 @@
+-- `chip::sequence::after_effect` meets its contract.
+use borrow.Author.Needs.{needs}
+use Rattle.chip.proofs.sequence.after_effect.Statement.{statement}
+use Rattle.chip.proofs.sequence.after_effect.Tie as tie
+
+enum-known-effect : tie.Need-enum-known-effect
+enum-known-effect c = search needs
+
+enum-known-effect-2 : tie.Need-enum-known-effect-2
+enum-known-effect-2 c = search needs
+
+start-requires : tie.Need-start-requires
+start-requires c κs = search needs
+
+enum-told : tie.Need-enum-told
+enum-told c = search needs
+
+enum-told-2 : tie.Need-enum-told-2
+enum-told-2 c = search needs
+
+back-to-read-requires : tie.Need-back-to-read-requires
+back-to-read-requires c κs = search needs
+
+returns : tie.Need-returns
+returns c = simp (c .before .effect .given .1)
+
+returns-2 : tie.Need-returns-2
+returns-2 c = simp (c .before .before .effect2 .given .1) (c .start .ensures)
+
+returns-3 : tie.Need-returns-3
+returns-3 c = simp (c .enum-told .given .1)
+
+returns-4 : tie.Need-returns-4
+returns-4 c = simp (c .before .enum-told2 .given .1) (c .back-to-read .ensures)
+
+pub after-effect-spec : {M : Type 1} → statement M
+after-effect-spec =
+    tie.close
+    (tie.spec
+    enum-known-effect
+    enum-known-effect-2
+    start-requires
+    enum-told
+    enum-told-2
+    back-to-read-requires
+    returns
+    returns-2
+    returns-3
+    returns-4)

@@ -1,0 +1,33 @@
+-- `chip::sequence::last_write` meets its contract.
+use mathlib.Core.Path.{sym, _∙_}
+use borrow.Author.Needs.{needs}
+use borrow.Author.Tests.{eq-eqb, ne-eqb}
+use Rattle.chip.specs.Sequence.{effectOf}
+use Rattle.chip.proofs.sequence.last_write.Statement.{statement}
+use Rattle.chip.proofs.sequence.last_write.Tie as tie
+
+returns : tie.Need-returns
+unfolding effectOf
+returns c = simp (eq-eqb _ _ (c .if1 .taken))
+
+block-erase-requires : tie.Need-block-erase-requires
+block-erase-requires c κs = search needs
+
+returns-2 : tie.Need-returns-2
+unfolding effectOf
+returns-2 c = simp (ne-eqb _ _ (c .before .before .before .if1 .left), eq-eqb _ _ (c .before .if2 .taken)) (c .block-erase .ensures)
+
+at-u1-requires : tie.Need-at-u1-requires
+at-u1-requires c κs = search needs
+
+returns-3 : tie.Need-returns-3
+unfolding effectOf
+returns-3 c = simp (ne-eqb _ _ (c .before .before .before .before .if1 .left), ne-eqb _ _ (c .before .before .if2 .left), sym (c .before .at-u1 .ensures) ∙ c .if3 .taken)
+
+returns-4 : tie.Need-returns-4
+unfolding effectOf
+returns-4 c = simp (ne-eqb _ _ (c .before .before .before .before .if1 .left), ne-eqb _ _ (c .before .before .if2 .left), sym (c .before .at-u1 .ensures) ∙ c .if3 .left)
+
+pub last-write-spec : {M : Type 1} → statement M
+last-write-spec =
+    tie.close (tie.spec returns block-erase-requires returns-2 at-u1-requires returns-3 returns-4)

@@ -1,0 +1,5 @@
+pub mod Device
+pub mod Operation
+pub mod Sequence
+pub mod Cycle
+pub mod Sized

@@ -1,0 +1,189 @@
+// The writes in sequence: what follows from a write to a device that is not busy.
+use crate::Device;
+use crate::Mode;
+use crate::Operation;
+use parts::Row;
+ghost use mathlib.Core.Path.{_≡_};
+ghost use Rattle.parts.specs.Pick.{pick};
+ghost use Rattle.chip.specs.Sequence.{AtU1, AtU2, afterEffect, blockErase, effectOf, ignored, isWanted, returned, started, writtenOf};
+ghost use Rattle.chip.specs.Sized.{Sized};
+
+// What follows: the sequence goes on to a stage, a command's operation starts, identification mode, or read mode.
+pub enum Effect {
+    Goes(u32),
+    Starts(u32),
+    Identifies,
+    Returns,
+}
+
+// Whether a write is a byte at U1.
+fn at_u1(row: Row, a: u32, x: u16, byte: u32) -> bool
+    requires { ⌜ Sized row ⌝ }
+    ensures { λ r. ⌜ r ≡ isWanted row a x (AtU1 byte) ⌝ }
+{
+    if a % row.compared == row.u1 {
+        return x as u32 % 256 == byte;
+    }
+    false
+}
+
+// Whether a write is a byte at U2.
+fn at_u2(row: Row, a: u32, x: u16, byte: u32) -> bool
+    requires { ⌜ Sized row ⌝ }
+    ensures { λ r. ⌜ r ≡ isWanted row a x (AtU2 byte) ⌝ }
+{
+    if a % row.compared == row.u2 {
+        return x as u32 % 256 == byte;
+    }
+    false
+}
+
+// On to a stage, or broken.
+fn on(met: bool, stage: u32) -> Effect
+    ensures { λ r. ⌜ r ≡ pick met (Effect.Goes stage) Effect.Returns ⌝ }
+{
+    if met {
+        return Effect::Goes(stage);
+    }
+    Effect::Returns
+}
+
+// The third write, after 55H.
+fn third_write(row: Row, a: u32, x: u16) -> Effect
+    requires { ⌜ Sized row ⌝ }
+    ensures { λ r. ⌜ r ≡ effectOf row 2 a x ⌝ }
+{
+    if at_u1(row, a, x, 0xa0) {
+        return Effect::Goes(3);
+    }
+    if at_u1(row, a, x, 0x80) {
+        return Effect::Goes(4);
+    }
+    if at_u1(row, a, x, 0x90) {
+        return Effect::Identifies;
+    }
+    Effect::Returns
+}
+
+// The block code: a block erase where the part has blocks.
+fn block_erase(row: Row) -> Effect
+    ensures { λ r. ⌜ r ≡ blockErase row ⌝ }
+{
+    if 0 < row.block {
+        return Effect::Starts(2);
+    }
+    Effect::Returns
+}
+
+// The last write of an erase, after the second 55H.
+fn last_write(row: Row, a: u32, x: u16) -> Effect
+    requires { ⌜ Sized row ⌝ }
+    ensures { λ r. ⌜ r ≡ effectOf row 6 a x ⌝ }
+{
+    let byte = x as u32 % 256;
+    if byte == row.sector_code {
+        return Effect::Starts(1);
+    }
+    if byte == row.block_code {
+        return block_erase(row);
+    }
+    if at_u1(row, a, x, 0x10) {
+        return Effect::Starts(3);
+    }
+    Effect::Returns
+}
+
+// What follows from a write at a stage.
+fn effect_of(row: Row, stage: u32, a: u32, x: u16) -> Effect
+    requires { ⌜ Sized row ⌝ }
+    ensures { λ r. ⌜ r ≡ effectOf row stage a x ⌝ }
+{
+    match stage {
+        0 => on(at_u1(row, a, x, 0xaa), 1),
+        1 => on(at_u2(row, a, x, 0x55), 2),
+        2 => third_write(row, a, x),
+        3 => Effect::Starts(0),
+        4 => on(at_u1(row, a, x, 0xaa), 5),
+        5 => on(at_u2(row, a, x, 0x55), 6),
+        6 => last_write(row, a, x),
+        _ => Effect::Returns,
+    }
+}
+
+// Whether WP# protects from a command at an address.
+fn is_ignored(row: Row, wp: bool, command: u32, a: u32) -> bool
+    ensures { λ r. ⌜ r ≡ ignored row wp command a ⌝ }
+{
+    if wp {
+        return false;
+    }
+    let protected = row.protected_range();
+    if command == 3 {
+        return 0 < protected.count;
+    }
+    protected.holds(a)
+}
+
+// Read mode with no sequence begun.
+fn back_to_read(d: Device) -> Device
+    ensures { λ r. ⌜ r ≡ returned d ⌝ }
+{
+    let running = d.running;
+    Device {
+        mode: Mode::ReadMode,
+        stage: 0,
+        running,
+    }
+}
+
+// The operation starts, unless it is protected.
+fn start(row: Row, d: Device, wp: bool, command: u32, a: u32, x: u16) -> Device
+    ensures { λ r. ⌜ r ≡ pick (ignored row wp command a) (returned d) (started row command a x) ⌝ }
+{
+    if is_ignored(row, wp, command, a) {
+        return back_to_read(d);
+    }
+    let operation = Operation {
+        kind: command,
+        address: a,
+        data: x,
+        left: row.time(command),
+        toggle: true,
+    };
+    Device {
+        mode: Mode::ReadMode,
+        stage: 0,
+        running: operation,
+    }
+}
+
+// The device after an effect.
+fn after_effect(row: Row, d: Device, wp: bool, a: u32, x: u16, effect: Effect) -> Device
+    ensures { λ r. ⌜ r ≡ afterEffect row d wp a x effect ⌝ }
+{
+    let mode = d.mode;
+    let running = d.running;
+    match effect {
+        Effect::Goes(stage) => Device {
+            mode,
+            stage,
+            running,
+        },
+        Effect::Starts(command) => start(row, d, wp, command, a, x),
+        Effect::Identifies => Device {
+            mode: Mode::Identification,
+            stage: 0,
+            running,
+        },
+        Effect::Returns => back_to_read(d),
+    }
+}
+
+// A write to a device that is not busy.
+pub(crate) fn written(row: Row, d: Device, wp: bool, a: u32, x: u16) -> Device
+    requires { ⌜ Sized row ⌝ }
+    ensures { λ r. ⌜ r ≡ writtenOf row d wp a x ⌝ }
+{
+    let effect = effect_of(row, d.stage, a, x);
+    after_effect(row, d, wp, a, x, effect)
+}
