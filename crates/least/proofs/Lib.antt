@@ -1,0 +1,5 @@
+pub mod Cell
+pub mod Sector
+pub mod Bound
+pub mod Run
+pub mod Theorem
