@@ -11,6 +11,7 @@ use lib.Seq.{take-at, drop-at, take-set-le, take-set-lt, drop-set-lt, drop-set-a
 use Rattle.parts.specs.Width.{blankOf, valueOf}
 use Rattle.least.specs.Operations.{Op, Program, Erase, blanks, perform, performAll, Holds, cost, costAll}
 use Rattle.least.specs.LeastTime.{sectorTime, sectorsTime, leastTime}
+use Rattle.least.proofs.Lists.{drop-next}
 use Rattle.least.proofs.Sector.{sector-done, sector-program, sector-blanks}
 
 module _ (w S : ℕ) where
@@ -85,7 +86,7 @@ module _ (w S tp te : ℕ) where
   least-first n l v = rw (zero-mul S)
 
   least-rest : (f n : ℕ) (l v : List ℕ) → leastTime w S tp te (suc f) n l v ≡ leastTime w S tp te f n (drop S l) v
-  least-rest f n l v = let e : suc f * S ≡ S + f * S = omega arith in rw (e, drop-drop)
+  least-rest f n l v = rw (drop-next S f l)
 
   -- an operation lowers the least time by no more than it takes
   least-step : (f n : ℕ) (op : Op) (l v : List ℕ) → (f + n) * S ≤ length l

@@ -1,3 +1,4 @@
+pub mod Lists
 pub mod Cell
 pub mod Sector
 pub mod Bound

@@ -14,7 +14,8 @@ use Rattle.parts.proofs.Values.{value-value}
 use Rattle.parts.proofs.Every.{split}
 use Rattle.least.specs.Operations.{Op, Program, Erase, blanks, perform, performAll, costAll}
 use Rattle.least.specs.LeastTime.{differs, rises, rising, differing, nonBlank, sectorTime, sectorsTime}
-use Rattle.least.specs.Job.{programs, sectorOps, sectorsOps, liveOps}
+use Rattle.least.specs.Job.{programs, sectorOps, sectorsOps, jobOps, liveOps}
+use Rattle.least.proofs.Lists.{drop-next, map-same}
 use Rattle.least.proofs.Cell.{one-zero, same}
 use Rattle.least.proofs.Sector.{choose, rising-blanks, sector-clear, sector-erase}
 
@@ -51,56 +52,52 @@ module _ (w S tp te : ℕ) where
 -- ---- what they leave
 module _ (w S : ℕ) where
   -- the operations turn the cells into p, some cells with v's values, and q
-  abbrev pub Leaves : List Op → List ℕ → List ℕ → List ℕ → List ℕ → Type 0
-  Leaves ops cells p v q = (m : List ℕ) × (map (valueOf w) m ≡ map (valueOf w) v) × (performAll w S ops cells ≡ p ++ (m ++ q))
+  pub record Leaves (ops : List Op) (cells p v q : List ℕ) : Type 0 where
+    pub found : List ℕ
+    pub values : map (valueOf w) found ≡ map (valueOf w) v
+    pub ends : performAll w S ops cells ≡ p ++ (found ++ q)
 
   performAll-append : (a b : List Op) (l : List ℕ) → performAll w S (a ++ b) l ≡ performAll w S b (performAll w S a l)
   performAll-append [] b l = refl
   performAll-append (op ∷ a) b l = performAll-append a b (perform w S op l)
 
-  pub same-length : (m v : List ℕ) → map (valueOf w) m ≡ map (valueOf w) v → length m ≡ length v
-  same-length m v e = sym (length-map m (valueOf w)) ∙ ap length e ∙ length-map v (valueOf w)
+  pub found-length : {ops : List Op} {cells p v q : List ℕ} (k : Leaves ops cells p v q) → length (k .found) ≡ length v
+  found-length {v = v} k = sym (length-map (k .found) (valueOf w)) ∙ ap length (k .values) ∙ length-map v (valueOf w)
 
   -- operations that go on where others ended
-  go-on : (a b : List Op) (cells p v r v′ q : List ℕ) → Leaves a cells p v r
-      → ((m : List ℕ) → length m ≡ length v → Leaves b ((p ++ m) ++ r) (p ++ m) v′ q) → Leaves (a ++ b) cells p (v ++ v′) q
-  go-on a b cells p v r v′ q (m, e, k) f =
-      let (m′, e′, k′) = f m (same-length m v e) in (
-        m ++ m′,
-        simp map-append (cc),
-        performAll-append a b cells ∙ ap (performAll w S b) (k ∙ sym (append-assoc p m r)) ∙ k′ ∙ simp append-assoc,
-      )
+  go-on : {a b : List Op} {cells p v r v′ q u : List ℕ} → v ++ v′ ≡ u → (k : Leaves a cells p v r)
+      → Leaves b ((p ++ k .found) ++ r) (p ++ k .found) v′ q → Leaves (a ++ b) cells p u q
+  go-on {a} {b} {cells} {p} {v} {r} {v′} {q} {u} e k j =
+      record {
+        found = k .found ++ j .found;
+        values = rw (← e) (simp map-append (cc (k .values, j .values)));
+        ends = performAll-append a b cells ∙ ap (performAll w S b) (k .ends ∙ sym (append-assoc p (k .found) r)) ∙ j .ends ∙ simp append-assoc;
+      }
 
   -- one cell
   program-run : (o x a : ℕ) (p q : List ℕ) → length p ≡ a → rises w o x ≡ false
       → Leaves (pick (differs w o x) (Program a x ∷ []) []) (p ++ o ∷ q) p (x ∷ []) q
   program-run o x a p q e r =
       split (λ ops. Leaves ops (p ++ o ∷ q) p (x ∷ []) q) (differs w o x) _ _
-      (λ d. (
-        valueOf w (bitAnd o x) ∷ [],
-        ap (λ (y : ℕ). y ∷ []) (value-value w (bitAnd o x) ∙ same w (bitAnd o x) x r),
-        set-at p o q _ a e ∙ ap (λ (y : ℕ). p ++ valueOf w (bitAnd y x) ∷ q) (getD-at p o q 0 a e),
-      ))
-      (λ d. (o ∷ [], ap (λ (y : ℕ). y ∷ []) (same w o x d), refl))
+      (λ d. record {
+        found = valueOf w (bitAnd o x) ∷ [];
+        values = ap (λ (y : ℕ). y ∷ []) (value-value w (bitAnd o x) ∙ same w (bitAnd o x) x r);
+        ends = set-at p o q _ a e ∙ ap (λ (y : ℕ). p ++ valueOf w (bitAnd y x) ∷ q) (getD-at p o q 0 a e);
+      })
+      (λ d. record { found = o ∷ []; values = ap (λ (y : ℕ). y ∷ []) (same w o x d); ends = refl })
 
   -- the programs of a stretch in which nothing must rise
   programs-run : (l v : List ℕ) (a : ℕ) (p q : List ℕ) → length p ≡ a → length l ≡ length v → rising w l v ≡ 0
       → Leaves (programs w a l v) (p ++ (l ++ q)) p v q
-  programs-run [] [] a p q e k r = ([], refl, refl)
+  programs-run [] [] a p q e k r = record { found = []; values = refl; ends = refl }
   programs-run [] (x ∷ v) a p q e k r = absurd (omega arith)
   programs-run (o ∷ l) [] a p q e k r = absurd (omega arith)
   programs-run (o ∷ l) (x ∷ v) a p q e k r =
-      go-on (pick (differs w o x) (Program a x ∷ []) []) (programs w (suc a) l v) (p ++ o ∷ (l ++ q)) p (x ∷ []) (l ++ q) v q
-      (program-run o x a p (l ++ q) e (one-zero (rises w o x) (omega arith)))
-      (λ m j. programs-run l v (suc a) (p ++ m) q (length-append p m ∙ omega arith) (omega arith) (omega arith))
+      let first = program-run o x a p (l ++ q) e (one-zero (rises w o x) (omega arith)) in
+      let far : length (p ++ first .found) ≡ suc a = length-append p (first .found) ∙ omega (arith, found-length first) in
+      go-on refl first (programs-run l v (suc a) (p ++ first .found) q far (omega arith) (omega arith))
 
-  -- a sector erased
-  blanks-length : (l v : List ℕ) → length l ≡ length v → blanks w l ≡ blanks w v
-  blanks-length [] [] k = refl
-  blanks-length [] (x ∷ v) k = absurd (omega arith)
-  blanks-length (o ∷ l) [] k = absurd (omega arith)
-  blanks-length (o ∷ l) (x ∷ v) k = ap (λ (r : List ℕ). blankOf w ∷ r) (blanks-length l v (omega arith))
-
+  -- an erase of the sector after p
   erase-run : (s : ℕ) (l v p q : List ℕ) → length p ≡ s * S → length l ≡ S → length v ≡ S
       → perform w S (Erase s) (p ++ (l ++ q)) ≡ p ++ (blanks w v ++ q)
   erase-run s l v p q e k j =
@@ -110,7 +107,7 @@ module _ (w S : ℕ) where
         drop-at p (l ++ q) (s * S) e,
         take-at l q S k,
         drop-at l q S k,
-        blanks-length l v (k ∙ sym j),
+        map-same (blankOf w) l v (k ∙ sym j),
       )
 
   -- one sector
@@ -119,39 +116,57 @@ module _ (w S : ℕ) where
   unfolding sectorOps
   sector-run s l v p q e k j =
       choose (λ ops. Leaves ops (p ++ (l ++ q)) p v q) (rising w l v) _ _
-      (λ r. subst (λ (cells : List ℕ). Leaves (programs w (s * S) (blanks w v) v) cells p v q) (sym (erase-run s l v p q e k j))
-      (programs-run (blanks w v) v (s * S) p q e (length-map v (λ x. blankOf w)) (rising-blanks w v v)))
+      (λ r.
+      let after = programs-run (blanks w v) v (s * S) p q e (length-map v (λ x. blankOf w)) (rising-blanks w v v) in
+      record {
+        found = after .found;
+        values = after .values;
+        ends = ap (performAll w S (programs w (s * S) (blanks w v) v)) (erase-run s l v p q e k j) ∙ after .ends;
+      })
       (λ r. programs-run l v (s * S) p q e (omega arith) r)
 
-  -- the first sector of the cells l, which begin with sector s, after p
-  first-run : (s : ℕ) (l v p : List ℕ) → length p ≡ s * S → S ≤ length l → S ≤ length v
+  -- the job stands at sector s: p are the cells before it, l those from it on, and v the image of the n sectors that are left
+  pub record Stands (n s : ℕ) (l v p : List ℕ) : Type 0 where
+    pub before : length p ≡ s * S
+    pub cells : n * S ≤ length l
+    pub image : length v ≡ n * S
+
+  first-run : {n s : ℕ} {l v p : List ℕ} → Stands (suc n) s l v p
       → Leaves (sectorOps w S s (take S l) (take S v)) (p ++ l) p (take S v) (drop S l)
-  first-run s l v p e k j =
-      subst (λ (r : List ℕ). Leaves (sectorOps w S s (take S l) (take S v)) (p ++ r) p (take S v) (drop S l)) (take-append-drop S l)
-      (sector-run s (take S l) (take S v) p (drop S l) e (length-take-le S l k) (length-take-le S v j))
+  first-run {n} {s} {l} {v} {p} h =
+      let k : length (take S l) ≡ S = length-take-le S l (omega arith) in
+      let j : length (take S v) ≡ S = length-take-le S v (omega arith) in
+      rw (take-append-drop S l) at (sector-run s (take S l) (take S v) p (drop S l) (h .before) k j)
 
-  -- n sectors
-  pub sectors-run : (n s : ℕ) (l v p : List ℕ) → length p ≡ s * S → n * S ≤ length l → length v ≡ n * S
-      → Leaves (sectorsOps w S s n l v) (p ++ l) p v (drop (n * S) l)
-  sectors-run zero s l [] p e k j = rw (zero-mul S) ([], refl, refl)
-  sectors-run zero s l (x ∷ v) p e k j = absurd (omega arith)
-  sectors-run (suc n) s l v p e k j =
-      let c : suc n * S ≡ S + n * S = omega arith in
-      let t = length-take-le S v (omega arith) in
-      rw (c, ← drop-drop (n * S) S l)
-      (subst (λ (u : List ℕ). Leaves (sectorsOps w S s (suc n) l v) (p ++ l) p u (drop (n * S) (drop S l))) (take-append-drop S v)
-      (go-on (sectorOps w S s (take S l) (take S v)) (sectorsOps w S (suc s) n (drop S l) (drop S v)) (p ++ l) p (take S v) (drop S l) (drop S v) (drop (n * S) (drop S l))
-      (first-run s l v p e (omega arith) (omega arith))
-      (λ m i. sectors-run n (suc s) (drop S l) (drop S v) (p ++ m) (length-append p m ∙ omega arith) (rw length-drop (omega arith)) (rw length-drop (omega arith)))))
+  next : {n s : ℕ} {l v p : List ℕ} (h : Stands (suc n) s l v p) → Stands n (suc s) (drop S l) (drop S v) (p ++ first-run h .found)
+  next {n} {s} {l} {v} {p} h =
+      record {
+        before = length-append p (first-run h .found) ∙ omega (arith, found-length (first-run h), length-take-le S v (omega arith));
+        cells = rw length-drop (omega arith);
+        image = rw length-drop (omega arith);
+      }
 
-  pub live-run : (n s : ℕ) (l v p : List ℕ) → length p ≡ s * S → n * S ≤ length l → length v ≡ n * S
-      → liveOps w S s n (p ++ l) v ≡ sectorsOps w S s n l v
-  live-run zero s l v p e k j = refl
-  live-run (suc n) s l v p e k j =
+  pub sectors-run : (n : ℕ) {s : ℕ} {l v p : List ℕ} → Stands n s l v p → Leaves (sectorsOps w S s n l v) (p ++ l) p v (drop (n * S) l)
+  sectors-run zero {v = []} h = record { found = []; values = refl; ends = rw (zero-mul S) }
+  sectors-run zero {v = x ∷ v} h = absurd (omega arith)
+  sectors-run (suc n) {l = l} {v = v} h =
+      rw (drop-next S n l) (go-on (take-append-drop S v) (first-run h) (sectors-run n (next h)))
+
+  -- the decision of each sector, made when the job comes to it
+  pub live-run : (n : ℕ) {s : ℕ} {l v p : List ℕ} → Stands n s l v p → liveOps w S s n (p ++ l) v ≡ sectorsOps w S s n l v
+  live-run zero h = refl
+  live-run (suc n) {s} {l} {v} {p} h =
       let ops = sectorOps w S s (take S l) (take S v) in
-      let (m, i, r) = first-run s l v p e (omega arith) (omega arith) in
-      let t = same-length m (take S v) i ∙ length-take-le S v (omega arith) in
-      rw (drop-at p l (s * S) e)
-      (ap (λ (c : List ℕ). ops ++ liveOps w S (suc s) n c (drop S v)) (r ∙ sym (append-assoc p m (drop S l)))
-      ∙ ap (λ (x : List Op). ops ++ x)
-      (live-run n (suc s) (drop S l) (drop S v) (p ++ m) (length-append p m ∙ omega arith) (rw length-drop (omega arith)) (rw length-drop (omega arith))))
+      rw (drop-at p l (s * S) (h .before))
+      (ap (λ (c : List ℕ). ops ++ liveOps w S (suc s) n c (drop S v)) (first-run h .ends ∙ sym (append-assoc p (first-run h .found) (drop S l)))
+      ∙ ap (λ (r : List Op). ops ++ r) (live-run n (next h)))
+
+-- ---- the job on the n sectors from sector f on
+module _ (w S f n : ℕ) (cells image : List ℕ) (inside : (f + n) * S ≤ length cells) (whole : length image ≡ n * S) where
+  pub start : Stands w S n f (drop (f * S) cells) image (take (f * S) cells)
+  start = record { before = length-take-le (f * S) cells (omega arith); cells = rw length-drop (omega arith); image = whole }
+
+  pub job-run : Leaves w S (jobOps w S f n cells image) cells (take (f * S) cells) image (drop ((f + n) * S) cells)
+  job-run =
+      let e : f * S + n * S ≡ (f + n) * S = omega arith in
+      rw (take-append-drop (f * S) cells, drop-drop (n * S) (f * S) cells, e) at (sectors-run w S n start)

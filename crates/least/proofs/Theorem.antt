@@ -1,17 +1,19 @@
--- The theorems of this crate: for any width w, sector size S and table times tp and te, on the n sectors from sector f on, which lie within the cells.
+-- The theorems of this crate, for any width w, sector size S and table times tp and te.
+-- The range is the n sectors from sector f on; it lies within the cells.
 use mathlib.Core.Path.{_≡_, sym, ap, _∙_}
-use mathlib.Core.Logic.{_⊎_, inl, inr}
+use mathlib.Core.Logic.{_⊎_, ⊎-elim}
 use mathlib.Core.List.{List, _++_, append-assoc}
-use Prim.Native.Nat.{ℕ, _+_, _-_, _*_, _≤_, _<_}
+use Prim.Native.Nat.{ℕ, _+_, _*_, _≤_, _<_}
 use native.Mathlib.Omega.{arith}
-use lib.ListN.{length, getD, take, drop, length-drop, length-append, take-append-drop, List·getD-append, List·getD-map}
-use lib.Seq.{take-at, drop-at, drop-drop, length-take-le, getD-append-add, getD-take, getD-drop}
+use lib.ListN.{length, getD, take, drop, length-append, take-append-drop}
+use lib.Seq.{take-at, drop-at}
 use Rattle.parts.specs.Width.{valueOf}
 use Rattle.least.specs.Operations.{Op, performAll, Holds, costAll}
 use Rattle.least.specs.LeastTime.{leastTime}
-use Rattle.least.specs.Job.{jobOps, liveOps}
+use Rattle.least.specs.Job.{jobOps, afterJob, liveOps}
+use Rattle.least.proofs.Lists.{middle, map-at, begin-alike, end-alike}
 use Rattle.least.proofs.Bound.{performAll-length, bound}
-use Rattle.least.proofs.Run.{Leaves, same-length, sectors-cost, sectors-run, live-run}
+use Rattle.least.proofs.Run.{found-length, sectors-cost, live-run, start, job-run}
 
 module _ (w S tp te f n : ℕ) (cells image : List ℕ) where
   -- Any operations after which the range holds the image take at least the least time.
@@ -29,56 +31,29 @@ module _ (w S tp te f n : ℕ) (cells image : List ℕ) where
   job-best ops inside h = omega (arith, job-cost, optimal ops inside h)
 
 module _ (w S f n : ℕ) (cells image : List ℕ) (inside : (f + n) * S ≤ length cells) (whole : length image ≡ n * S) where
-  before : length (take (f * S) cells) ≡ f * S
-  before = length-take-le (f * S) cells (omega arith)
+  -- After the job the range holds the image.
+  pub job-holds : Holds w S f n (afterJob w S f n cells image) image
+  job-holds i h =
+      let run = job-run w S f n cells image inside whole in
+      let at : i < length (run .found) = omega (arith, found-length w S run) in
+      rw (run .ends, middle (take (f * S) cells) (run .found) _ (f * S) i (start w S f n cells image inside whole .before) at)
+      (map-at (valueOf w) (run .found) image i (run .values))
 
-  after : n * S ≤ length (drop (f * S) cells)
-  after = rw length-drop (omega arith)
-
-  job-run : Leaves w S (jobOps w S f n cells image) cells (take (f * S) cells) image (drop ((f + n) * S) cells)
-  job-run =
-      let (m, e, k) = sectors-run w S n f (drop (f * S) cells) image (take (f * S) cells) before after whole in
-      let j : f * S + n * S ≡ (f + n) * S = omega arith in (
-        m,
-        e,
-        ap (performAll w S (jobOps w S f n cells image)) (sym (take-append-drop (f * S) cells)) ∙ k
-            ∙ ap (λ (r : List ℕ). take (f * S) cells ++ (m ++ r)) (drop-drop (n * S) (f * S) cells ∙ ap (λ (i : ℕ). drop i cells) j),
+  -- Every cell outside the range is the word that it was, and the number of cells is what it was.
+  pub job-elsewhere : (length (afterJob w S f n cells image) ≡ length cells)
+      × ((i : ℕ) → (i < f * S) ⊎ ((f + n) * S ≤ i) → getD (afterJob w S f n cells image) i 0 ≡ getD cells i 0)
+  job-elsewhere =
+      let run = job-run w S f n cells image inside whole in
+      let p = take (f * S) cells in
+      let q = drop ((f + n) * S) cells in
+      let before : length p ≡ f * S = start w S f n cells image inside whole .before in
+      let range : length (p ++ run .found) ≡ (f + n) * S = length-append p (run .found) ∙ omega (arith, found-length w S run) in (
+        performAll-length w S (jobOps w S f n cells image) cells,
+        λ i. ⊎-elim
+            (begin-alike (afterJob w S f n cells image) cells (f * S) i (rw (run .ends) (take-at p (run .found ++ q) (f * S) before)))
+            (end-alike (afterJob w S f n cells image) cells ((f + n) * S) i (rw (run .ends, ← append-assoc p (run .found) q) (drop-at (p ++ run .found) q ((f + n) * S) range))),
       )
 
-  -- After the job's operations the range holds the image.
-  pub job-holds : Holds w S f n (performAll w S (jobOps w S f n cells image) cells) image
-  job-holds i h =
-      let (m, e, k) = job-run in
-      let q = drop ((f + n) * S) cells in
-      let l = same-length w S m image e in
-      ap (λ (c : List ℕ). valueOf w (getD c (f * S + i) 0)) k
-      ∙ ap (λ (j : ℕ). valueOf w (getD (take (f * S) cells ++ (m ++ q)) (j + i) 0)) (sym before)
-      ∙ ap (valueOf w) (getD-append-add (take (f * S) cells) (m ++ q) i 0 ∙ List·getD-append m q 0 i (omega arith))
-      ∙ sym (List·getD-map (valueOf w) m i 0) ∙ ap (λ (c : List ℕ). getD c i (valueOf w 0)) e ∙ List·getD-map (valueOf w) image i 0
-
-  -- Every cell outside the range is the word that it was, and their number is the same.
-  pub job-elsewhere : (length (performAll w S (jobOps w S f n cells image) cells) ≡ length cells)
-      × ((i : ℕ) → (i < f * S) ⊎ ((f + n) * S ≤ i) → getD (performAll w S (jobOps w S f n cells image) cells) i 0 ≡ getD cells i 0)
-  job-elsewhere = (performAll-length w S (jobOps w S f n cells image) cells, at)
-    where
-      at : (i : ℕ) → (i < f * S) ⊎ ((f + n) * S ≤ i) → getD (performAll w S (jobOps w S f n cells image) cells) i 0 ≡ getD cells i 0
-      at i (inl h) =
-          let (m, e, k) = job-run in
-          ap (λ (c : List ℕ). getD c i 0) k
-          ∙ List·getD-append (take (f * S) cells) (m ++ drop ((f + n) * S) cells) 0 i (omega (arith, before))
-          ∙ getD-take (f * S) cells i 0 h
-      at i (inr h) =
-          let (m, e, k) = job-run in
-          let q = drop ((f + n) * S) cells in
-          let j : length (take (f * S) cells ++ m) ≡ (f + n) * S = length-append (take (f * S) cells) m ∙ omega (arith, before, same-length w S m image e) in
-          let z : (f + n) * S + (i - (f + n) * S) ≡ i = omega arith in
-          rw z at (ap (λ (c : List ℕ). getD c ((f + n) * S + (i - (f + n) * S)) 0) (k ∙ sym (append-assoc (take (f * S) cells) m q))
-          ∙ sym (getD-drop ((f + n) * S) _ (i - (f + n) * S) 0)
-          ∙ ap (λ (c : List ℕ). getD c (i - (f + n) * S) 0) (drop-at (take (f * S) cells ++ m) q ((f + n) * S) j)
-          ∙ getD-drop ((f + n) * S) cells (i - (f + n) * S) 0)
-
-  -- To decide each sector when the job comes to it gives the same operations.
+  -- To decide each sector on the cells as they are when the job comes to it gives the same operations.
   pub job-live : liveOps w S f n cells image ≡ jobOps w S f n cells image
-  job-live =
-      ap (λ (c : List ℕ). liveOps w S f n c image) (sym (take-append-drop (f * S) cells))
-      ∙ live-run w S n f (drop (f * S) cells) image (take (f * S) cells) before after whole
+  job-live = rw (take-append-drop (f * S) cells) at (live-run w S n (start w S f n cells image inside whole))

@@ -28,7 +28,11 @@ module _ (w S : ℕ) where
   abbrev pub jobOps : ℕ → ℕ → List ℕ → List ℕ → List Op
   jobOps f n cells image = sectorsOps f n (drop (f * S) cells) image
 
-  -- the same, each sector decided from the cells as they are when the job comes to it
+  -- the cells after it
+  abbrev pub afterJob : ℕ → ℕ → List ℕ → List ℕ → List ℕ
+  afterJob f n cells image = performAll w S (jobOps f n cells image) cells
+
+  -- the job's operations, each sector decided from the cells as they are when the job comes to it
   abbrev pub liveOps : ℕ → ℕ → List ℕ → List ℕ → List Op
   liveOps f zero cells image = []
   liveOps f (suc n) cells image =
