@@ -5,18 +5,25 @@ use native.Mathlib.Nat.{zero-mul, zero-add}
 use native.Mathlib.Omega.{arith}
 use native.Mathlib.Decide.{decLt}
 use mathlib.Core.List.{List, [], _∷_, _++_, append-assoc}
-use lib.Bits.{bitAnd}
 use lib.ListN.{length, getD, set, take, drop, length-set, length-map, length-take, length-drop, length-append, take-append-drop}
 use lib.Seq.{take-at, drop-at, take-set-le, take-set-lt, drop-set-lt, drop-set-add, getD-drop, getD-take, drop-drop, take-add, length-take-le}
 use Rattle.parts.specs.Width.{blankOf, valueOf}
-use Rattle.least.specs.Operations.{Op, Program, Erase, blanks, perform, performAll, Holds, cost, costAll}
+use Rattle.least.specs.Operations.{Op, Program, Erase, programmed, blanks, erased, perform, performAll, Holds, cost, costAll}
 use Rattle.least.specs.LeastTime.{sectorTime, sectorsTime, leastTime}
 use Rattle.least.proofs.Lists.{drop-next}
 use Rattle.least.proofs.Sector.{sector-done, sector-program, sector-blanks}
 
+-- what is erased after the first k cells
+erased-onward : (w k a c : ℕ) (l : List ℕ) → erased w (k + a) c l ≡ take k l ++ erased w a c (drop k l)
+unfolding erased
+erased-onward w k a c l =
+    let e : k + a + c ≡ k + (a + c) = omega arith in
+    rw (e, drop-drop a k l, drop-drop (a + c) k l, take-add) (simp append-assoc)
+
 module _ (w S : ℕ) where
   -- no operation changes the number of cells
   pub perform-length : (op : Op) (l : List ℕ) → length (perform w S op l) ≡ length l
+  unfolding erased
   perform-length (Program a d) l = length-set l a _
   perform-length (Erase s) l = simp (length-append, length-map, length-take, length-drop) (omega arith)
 
@@ -25,20 +32,19 @@ module _ (w S : ℕ) where
   performAll-length (op ∷ ops) l = performAll-length ops (perform w S op l) ∙ perform-length op l
 
   -- the same operation one sector on
-  abbrev next : Op → Op
-  next (Program a d) = Program (S + a) d
-  next (Erase s) = Erase (suc s)
+  abbrev onward : Op → Op
+  onward (Program a d) = Program (S + a) d
+  onward (Erase s) = Erase (suc s)
 
   -- it leaves the first sector, and does to the rest what the operation does
-  perform-next : (op : Op) (l : List ℕ) → perform w S (next op) l ≡ take S l ++ perform w S op (drop S l)
-  perform-next (Program a d) l =
+  perform-onward : (op : Op) (l : List ℕ) → perform w S (onward op) l ≡ take S l ++ perform w S op (drop S l)
+  perform-onward (Program a d) l =
       sym (take-append-drop S _)
       ∙ ap₂ (λ (p q : List ℕ). p ++ q) (take-set-le S l (S + a) _ (omega arith))
-      (drop-set-add S l a _ ∙ ap (λ (o : ℕ). set (drop S l) a (valueOf w (bitAnd o d))) (sym (getD-drop S l a 0)))
-  perform-next (Erase s) l =
+      (drop-set-add S l a _ ∙ ap (λ (o : ℕ). set (drop S l) a (programmed w o d)) (sym (getD-drop S l a 0)))
+  perform-onward (Erase s) l =
       let e : suc s * S ≡ S + s * S = omega arith in
-      let e′ : S + s * S + S ≡ S + (s * S + S) = omega arith in
-      rw (e, e′, drop-drop (s * S) S l, drop-drop (s * S + S) S l, take-add) (simp append-assoc)
+      rw e (erased-onward w S (s * S) _ l)
 
 module _ (w S tp te : ℕ) where
   -- an operation on the first sector: it leaves the rest, and lowers the sector's time by no more than it takes
@@ -52,6 +58,7 @@ module _ (w S tp te : ℕ) where
       (drop-set-lt S l a _ h, rw (take-set-lt S l a _ h, ← getD-take S l a 0 h) (sector-program w tp te (take S l) (take S v) a d))
 
   first-erase : (l v : List ℕ) → S ≤ length l → First (Erase 0) l v
+  unfolding erased
   first-erase l v h =
       let k : length (take S l) ≡ S = length-take-le S l h in
       let b : length (blanks w (take S l)) ≡ S = length-map (take S l) (λ o. blankOf w) ∙ k in
@@ -61,7 +68,8 @@ module _ (w S tp te : ℕ) where
       )
 
   -- every operation is on the first sector, or one sector on
-  by-place : (P : Op → Type 0) (l v : List ℕ) → S ≤ length l → ((op : Op) → First op l v → P op) → ((op : Op) → P (next w S op)) → (op : Op) → P op
+  by-place : (P : Op → Type 0) (l v : List ℕ) → S ≤ length l
+      → ((op : Op) → First op l v → P op) → ((op : Op) → P (onward w S op)) → (op : Op) → P op
   by-place P l v h here later (Erase zero) = here (Erase 0) (first-erase l v h)
   by-place P l v h here later (Erase (suc s)) = later (Erase s)
   by-place P l v h here later (Program a d) = go (decLt a S)
@@ -70,17 +78,19 @@ module _ (w S tp te : ℕ) where
       go (yes k) = here (Program a d) (first-program a d l v k)
       go (no k) = let e : S + (a - S) ≡ a = omega arith in rw e at (later (Program (a - S) d))
 
+  -- what an operation one sector on does to the first sector and to the rest, and what it takes
   module _ (op : Op) (l : List ℕ) (h : S ≤ length l) where
-    next-first : take S (perform w S (next w S op) l) ≡ take S l
-    next-first = rw (perform-next w S op l) (take-at (take S l) (perform w S op (drop S l)) S (length-take-le S l h))
+    onward-first : take S (perform w S (onward w S op) l) ≡ take S l
+    onward-first = rw (perform-onward w S op l) (take-at (take S l) (perform w S op (drop S l)) S (length-take-le S l h))
 
-    next-rest : drop S (perform w S (next w S op) l) ≡ perform w S op (drop S l)
-    next-rest = rw (perform-next w S op l) (drop-at (take S l) (perform w S op (drop S l)) S (length-take-le S l h))
+    onward-rest : drop S (perform w S (onward w S op) l) ≡ perform w S op (drop S l)
+    onward-rest = rw (perform-onward w S op l) (drop-at (take S l) (perform w S op (drop S l)) S (length-take-le S l h))
 
-  next-cost : (op : Op) → cost tp te (next w S op) ≡ cost tp te op
-  next-cost (Program a d) = refl
-  next-cost (Erase s) = refl
+  onward-cost : (op : Op) → cost tp te (onward w S op) ≡ cost tp te op
+  onward-cost (Program a d) = refl
+  onward-cost (Erase s) = refl
 
+  -- the first sector's time apart; and a range that does not begin with it
   least-first : (n : ℕ) (l v : List ℕ)
       → leastTime w S tp te 0 (suc n) l v ≡ sectorTime w tp te (take S l) (take S v) + leastTime w S tp te 0 n (drop S l) (drop S v)
   least-first n l v = rw (zero-mul S)
@@ -95,13 +105,13 @@ module _ (w S tp te : ℕ) where
   least-step zero (suc n) op l v h =
       by-place (λ o. leastTime w S tp te 0 (suc n) l v ≤ leastTime w S tp te 0 (suc n) (perform w S o l) v + cost tp te o) l v (omega arith)
       (λ o e. rw (least-first n l v, least-first n (perform w S o l) v, e .0) (omega (arith, e .1)))
-      (λ o. rw (least-first n l v, least-first n (perform w S (next w S o) l) v, next-first o l (omega arith), next-rest o l (omega arith), next-cost o)
+      (λ o. rw (least-first n l v, least-first n (perform w S (onward w S o) l) v, onward-first o l (omega arith), onward-rest o l (omega arith), onward-cost o)
       (omega (arith, least-step zero n o (drop S l) (drop S v) (rw length-drop (omega arith)))))
       op
   least-step (suc f) n op l v h =
       by-place (λ o. leastTime w S tp te (suc f) n l v ≤ leastTime w S tp te (suc f) n (perform w S o l) v + cost tp te o) l v (omega arith)
       (λ o e. rw (least-rest f n l v, least-rest f n (perform w S o l) v, e .0) (omega arith))
-      (λ o. rw (least-rest f n l v, least-rest f n (perform w S (next w S o) l) v, next-rest o l (omega arith), next-cost o)
+      (λ o. rw (least-rest f n l v, least-rest f n (perform w S (onward w S o) l) v, onward-rest o l (omega arith), onward-cost o)
       (least-step f n o (drop S l) v (rw length-drop (omega arith))))
       op
 

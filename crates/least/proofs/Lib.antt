@@ -4,3 +4,4 @@ pub mod Sector
 pub mod Bound
 pub mod Run
 pub mod Theorem
+pub mod Example

@@ -1,25 +1,25 @@
 -- The job's operations: what they take, and what they leave.
-use mathlib.Core.Path.{_≡_, refl, sym, ap, ap₂, subst, _∙_}
+use mathlib.Core.Path.{_≡_, refl, sym, ap, ap₂, _∙_}
 use mathlib.Core.Bool.{Bool, true, false}
 use mathlib.Core.List.{List, [], _∷_, _++_, map, map-append, append-assoc}
-use Prim.Native.Nat.{ℕ, zero, suc, _+_, _*_, _≤_, _<_}
+use Prim.Native.Nat.{ℕ, zero, suc, _+_, _*_, _≤_}
 use native.Mathlib.Nat.{zero-mul}
 use native.Mathlib.Omega.{arith}
 use lib.Bits.{bitAnd}
-use lib.ListN.{length, getD, set, take, drop, length-map, length-drop, length-append, take-append-drop}
-use lib.Seq.{take-at, drop-at, set-at, getD-at, append-snoc, drop-drop, length-take-le}
+use lib.ListN.{length, take, drop, length-map, length-drop, length-append, take-append-drop}
+use lib.Seq.{take-at, drop-at, set-at, getD-at, drop-drop, length-take-le}
 use Rattle.parts.specs.Pick.{pick}
 use Rattle.parts.specs.Width.{blankOf, valueOf}
 use Rattle.parts.proofs.Values.{value-value}
 use Rattle.parts.proofs.Every.{split}
-use Rattle.least.specs.Operations.{Op, Program, Erase, blanks, perform, performAll, costAll}
-use Rattle.least.specs.LeastTime.{differs, rises, rising, differing, nonBlank, sectorTime, sectorsTime}
+use Rattle.least.specs.Operations.{Op, Program, Erase, programmed, blanks, erased, perform, performAll, costAll}
+use Rattle.least.specs.LeastTime.{differs, rises, rising, differing, sectorTime, sectorsTime}
 use Rattle.least.specs.Job.{programs, sectorOps, sectorsOps, jobOps, liveOps}
 use Rattle.least.proofs.Lists.{drop-next, map-same}
-use Rattle.least.proofs.Cell.{one-zero, same}
+use Rattle.least.proofs.Cell.{one-zero, same-value}
 use Rattle.least.proofs.Sector.{choose, rising-blanks, sector-clear, sector-erase}
 
--- ---- what they take
+-- ---- what they take: a program for each value that differs, and so a sector's time, sector by sector
 module _ (tp te : ℕ) where
   costAll-append : (a b : List Op) → costAll tp te (a ++ b) ≡ costAll tp te a + costAll tp te b
   costAll-append [] b = omega arith
@@ -61,6 +61,7 @@ module _ (w S : ℕ) where
   performAll-append [] b l = refl
   performAll-append (op ∷ a) b l = performAll-append a b (perform w S op l)
 
+  -- of which there are as many
   pub found-length : {ops : List Op} {cells p v q : List ℕ} (k : Leaves ops cells p v q) → length (k .found) ≡ length v
   found-length {v = v} k = sym (length-map (k .found) (valueOf w)) ∙ ap length (k .values) ∙ length-map v (valueOf w)
 
@@ -80,11 +81,11 @@ module _ (w S : ℕ) where
   program-run o x a p q e r =
       split (λ ops. Leaves ops (p ++ o ∷ q) p (x ∷ []) q) (differs w o x) _ _
       (λ d. record {
-        found = valueOf w (bitAnd o x) ∷ [];
-        values = ap (λ (y : ℕ). y ∷ []) (value-value w (bitAnd o x) ∙ same w (bitAnd o x) x r);
-        ends = set-at p o q _ a e ∙ ap (λ (y : ℕ). p ++ valueOf w (bitAnd y x) ∷ q) (getD-at p o q 0 a e);
+        found = programmed w o x ∷ [];
+        values = ap (λ (y : ℕ). y ∷ []) (value-value w (bitAnd o x) ∙ same-value w (bitAnd o x) x r);
+        ends = set-at p o q _ a e ∙ ap (λ (y : ℕ). p ++ programmed w y x ∷ q) (getD-at p o q 0 a e);
       })
-      (λ d. record { found = o ∷ []; values = ap (λ (y : ℕ). y ∷ []) (same w o x d); ends = refl })
+      (λ d. record { found = o ∷ []; values = ap (λ (y : ℕ). y ∷ []) (same-value w o x d); ends = refl })
 
   -- the programs of a stretch in which nothing must rise
   programs-run : (l v : List ℕ) (a : ℕ) (p q : List ℕ) → length p ≡ a → length l ≡ length v → rising w l v ≡ 0
@@ -97,18 +98,11 @@ module _ (w S : ℕ) where
       let far : length (p ++ first .found) ≡ suc a = length-append p (first .found) ∙ omega (arith, found-length first) in
       go-on refl first (programs-run l v (suc a) (p ++ first .found) q far (omega arith) (omega arith))
 
-  -- an erase of the sector after p
-  erase-run : (s : ℕ) (l v p q : List ℕ) → length p ≡ s * S → length l ≡ S → length v ≡ S
-      → perform w S (Erase s) (p ++ (l ++ q)) ≡ p ++ (blanks w v ++ q)
-  erase-run s l v p q e k j =
-      rw (
-        ← drop-drop S (s * S) (p ++ (l ++ q)),
-        take-at p (l ++ q) (s * S) e,
-        drop-at p (l ++ q) (s * S) e,
-        take-at l q S k,
-        drop-at l q S k,
-        map-same (blankOf w) l v (k ∙ sym j),
-      )
+  -- the cells between p and q erased
+  erased-at : (a c : ℕ) (l p q : List ℕ) → length p ≡ a → length l ≡ c → erased w a c (p ++ (l ++ q)) ≡ p ++ (blanks w l ++ q)
+  unfolding erased
+  erased-at a c l p q e k =
+      rw (← drop-drop c a (p ++ (l ++ q)), take-at p (l ++ q) a e, drop-at p (l ++ q) a e, take-at l q c k, drop-at l q c k)
 
   -- one sector
   sector-run : (s : ℕ) (l v p q : List ℕ) → length p ≡ s * S → length l ≡ S → length v ≡ S
@@ -121,7 +115,7 @@ module _ (w S : ℕ) where
       record {
         found = after .found;
         values = after .values;
-        ends = ap (performAll w S (programs w (s * S) (blanks w v) v)) (erase-run s l v p q e k j) ∙ after .ends;
+        ends = ap (performAll w S (programs w (s * S) (blanks w v) v)) (rw (map-same (blankOf w) l v (k ∙ sym j)) at (erased-at (s * S) S l p q e k)) ∙ after .ends;
       })
       (λ r. programs-run l v (s * S) p q e (omega arith) r)
 
@@ -131,6 +125,7 @@ module _ (w S : ℕ) where
     pub cells : n * S ≤ length l
     pub image : length v ≡ n * S
 
+  -- its next sector, after which it stands one sector on
   first-run : {n s : ℕ} {l v p : List ℕ} → Stands (suc n) s l v p
       → Leaves (sectorOps w S s (take S l) (take S v)) (p ++ l) p (take S v) (drop S l)
   first-run {n} {s} {l} {v} {p} h =
@@ -138,19 +133,20 @@ module _ (w S : ℕ) where
       let j : length (take S v) ≡ S = length-take-le S v (omega arith) in
       rw (take-append-drop S l) at (sector-run s (take S l) (take S v) p (drop S l) (h .before) k j)
 
-  next : {n s : ℕ} {l v p : List ℕ} (h : Stands (suc n) s l v p) → Stands n (suc s) (drop S l) (drop S v) (p ++ first-run h .found)
-  next {n} {s} {l} {v} {p} h =
+  step-on : {n s : ℕ} {l v p : List ℕ} (h : Stands (suc n) s l v p) → Stands n (suc s) (drop S l) (drop S v) (p ++ first-run h .found)
+  step-on {n} {s} {l} {v} {p} h =
       record {
         before = length-append p (first-run h .found) ∙ omega (arith, found-length (first-run h), length-take-le S v (omega arith));
         cells = rw length-drop (omega arith);
         image = rw length-drop (omega arith);
       }
 
+  -- all its sectors
   pub sectors-run : (n : ℕ) {s : ℕ} {l v p : List ℕ} → Stands n s l v p → Leaves (sectorsOps w S s n l v) (p ++ l) p v (drop (n * S) l)
   sectors-run zero {v = []} h = record { found = []; values = refl; ends = rw (zero-mul S) }
   sectors-run zero {v = x ∷ v} h = absurd (omega arith)
   sectors-run (suc n) {l = l} {v = v} h =
-      rw (drop-next S n l) (go-on (take-append-drop S v) (first-run h) (sectors-run n (next h)))
+      rw (drop-next S n l) (go-on (take-append-drop S v) (first-run h) (sectors-run n (step-on h)))
 
   -- the decision of each sector, made when the job comes to it
   pub live-run : (n : ℕ) {s : ℕ} {l v p : List ℕ} → Stands n s l v p → liveOps w S s n (p ++ l) v ≡ sectorsOps w S s n l v
@@ -159,7 +155,7 @@ module _ (w S : ℕ) where
       let ops = sectorOps w S s (take S l) (take S v) in
       rw (drop-at p l (s * S) (h .before))
       (ap (λ (c : List ℕ). ops ++ liveOps w S (suc s) n c (drop S v)) (first-run h .ends ∙ sym (append-assoc p (first-run h .found) (drop S l)))
-      ∙ ap (λ (r : List Op). ops ++ r) (live-run n (next h)))
+      ∙ ap (λ (r : List Op). ops ++ r) (live-run n (step-on h)))
 
 -- ---- the job on the n sectors from sector f on
 module _ (w S f n : ℕ) (cells image : List ℕ) (inside : (f + n) * S ≤ length cells) (whole : length image ≡ n * S) where

@@ -1,17 +1,18 @@
 -- The theorems of this crate, for any width w, sector size S and table times tp and te.
 -- The range is the n sectors from sector f on; it lies within the cells.
-use mathlib.Core.Path.{_≡_, sym, ap, _∙_}
+use mathlib.Core.Path.{_≡_, _∙_}
 use mathlib.Core.Logic.{_⊎_, ⊎-elim}
 use mathlib.Core.List.{List, _++_, append-assoc}
-use Prim.Native.Nat.{ℕ, _+_, _*_, _≤_, _<_}
+use Prim.Native.Nat.{ℕ, suc, _+_, _*_, _≤_, _<_}
 use native.Mathlib.Omega.{arith}
 use lib.ListN.{length, getD, take, drop, length-append, take-append-drop}
-use lib.Seq.{take-at, drop-at}
+use lib.Seq.{take-at, drop-at, drop-drop}
 use Rattle.parts.specs.Width.{valueOf}
 use Rattle.least.specs.Operations.{Op, performAll, Holds, costAll}
-use Rattle.least.specs.LeastTime.{leastTime}
+use Rattle.least.specs.LeastTime.{rising, differing, nonBlank, sectorTime, leastTime}
 use Rattle.least.specs.Job.{jobOps, afterJob, liveOps}
 use Rattle.least.proofs.Lists.{middle, map-at, begin-alike, end-alike}
+use Rattle.least.proofs.Sector.{sector-clear, sector-erase}
 use Rattle.least.proofs.Bound.{performAll-length, bound}
 use Rattle.least.proofs.Run.{found-length, sectors-cost, live-run, start, job-run}
 
@@ -57,3 +58,17 @@ module _ (w S f n : ℕ) (cells image : List ℕ) (inside : (f + n) * S ≤ leng
   -- To decide each sector on the cells as they are when the job comes to it gives the same operations.
   pub job-live : liveOps w S f n cells image ≡ jobOps w S f n cells image
   job-live = rw (take-append-drop (f * S) cells) at (live-run w S n (start w S f n cells image inside whole))
+
+-- The least time is that of the first sector and of the rest.
+pub least-more : (w S tp te f n : ℕ) (cells image : List ℕ) → leastTime w S tp te f (suc n) cells image
+    ≡ sectorTime w tp te (take S (drop (f * S) cells)) (take S image) + leastTime w S tp te (suc f) n cells (drop S image)
+least-more w S tp te f n cells image = let e : suc f * S ≡ f * S + S = omega arith in rw (drop-drop S (f * S) cells, e)
+
+module _ (w tp te : ℕ) (cells image : List ℕ) where
+  -- One sector in which no bit must rise: a program for each value that differs.
+  pub sector-time-clear : rising w cells image ≡ 0 → sectorTime w tp te cells image ≡ differing w cells image * tp
+  sector-time-clear h = sector-clear w tp te cells image h
+
+  -- One sector in which a bit must rise: an erase, and a program for each image value that is not blank.
+  pub sector-time-rise : 0 < rising w cells image → sectorTime w tp te cells image ≡ te + nonBlank w image * tp
+  sector-time-rise h = sector-erase w tp te cells image h

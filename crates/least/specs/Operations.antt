@@ -12,15 +12,24 @@ pub data Op : Type 0 where
   Program : ℕ → ℕ → Op
   Erase : ℕ → Op
 
--- as many blank cells
-abbrev pub blanks : ℕ → List ℕ → List ℕ
-blanks w cells = map (λ o. blankOf w) cells
+module _ (w : ℕ) where
+  -- program leaves old AND data, of the cell o and the data d
+  abbrev pub programmed : ℕ → ℕ → ℕ
+  programmed o d = valueOf w (bitAnd o d)
+
+  -- erase leaves blank
+  abbrev pub blanks : List ℕ → List ℕ
+  blanks cells = map (λ o. blankOf w) cells
+
+  -- count cells from address a on are erased
+  unfoldable pub erased : ℕ → ℕ → List ℕ → List ℕ
+  erased a count cells = take a cells ++ (blanks (take count (drop a cells)) ++ drop (a + count) cells)
 
 module _ (w S : ℕ) where
-  -- a program leaves old AND data, an erase leaves blank over its sector; past the last cell there is nothing to change
+  -- what an operation leaves, whatever its address or sector: past the last cell there is nothing to change
   abbrev pub perform : Op → List ℕ → List ℕ
-  perform (Program a d) cells = set cells a (valueOf w (bitAnd (getD cells a 0) d))
-  perform (Erase s) cells = take (s * S) cells ++ (blanks w (take S (drop (s * S) cells)) ++ drop (s * S + S) cells)
+  perform (Program a d) cells = set cells a (programmed w (getD cells a 0) d)
+  perform (Erase s) cells = erased w (s * S) S cells
 
   -- one operation after the other
   abbrev pub performAll : List Op → List ℕ → List ℕ
