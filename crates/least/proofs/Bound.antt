@@ -99,19 +99,23 @@ module _ (w S tp te : ℕ) where
   least-rest f n l v = rw (drop-next S f l)
 
   -- an operation lowers the least time by no more than it takes
-  least-step : (f n : ℕ) (op : Op) (l v : List ℕ) → (f + n) * S ≤ length l
-      → leastTime w S tp te f n l v ≤ leastTime w S tp te f n (perform w S op l) v + cost tp te op
+  abbrev Lowers : ℕ → ℕ → List ℕ → List ℕ → Op → Type 0
+  Lowers f n l v op = leastTime w S tp te f n l v ≤ leastTime w S tp te f n (perform w S op l) v + cost tp te op
+
+  least-step : (f n : ℕ) (op : Op) (l v : List ℕ) → (f + n) * S ≤ length l → Lowers f n l v op
   least-step zero zero op l v h = zero-le
   least-step zero (suc n) op l v h =
-      by-place (λ o. leastTime w S tp te 0 (suc n) l v ≤ leastTime w S tp te 0 (suc n) (perform w S o l) v + cost tp te o) l v (omega arith)
+      let k : S ≤ length l = omega arith in
+      by-place (Lowers 0 (suc n) l v) l v k
       (λ o e. rw (least-first n l v, least-first n (perform w S o l) v, e .0) (omega (arith, e .1)))
-      (λ o. rw (least-first n l v, least-first n (perform w S (onward w S o) l) v, onward-first o l (omega arith), onward-rest o l (omega arith), onward-cost o)
+      (λ o. rw (least-first n l v, least-first n (perform w S (onward w S o) l) v, onward-first o l k, onward-rest o l k, onward-cost o)
       (omega (arith, least-step zero n o (drop S l) (drop S v) (rw length-drop (omega arith)))))
       op
   least-step (suc f) n op l v h =
-      by-place (λ o. leastTime w S tp te (suc f) n l v ≤ leastTime w S tp te (suc f) n (perform w S o l) v + cost tp te o) l v (omega arith)
+      let k : S ≤ length l = omega arith in
+      by-place (Lowers (suc f) n l v) l v k
       (λ o e. rw (least-rest f n l v, least-rest f n (perform w S o l) v, e .0) (omega arith))
-      (λ o. rw (least-rest f n l v, least-rest f n (perform w S (onward w S o) l) v, onward-rest o l (omega arith), onward-cost o)
+      (λ o. rw (least-rest f n l v, least-rest f n (perform w S (onward w S o) l) v, onward-rest o l k, onward-cost o)
       (least-step f n o (drop S l) v (rw length-drop (omega arith))))
       op
 

@@ -26,10 +26,11 @@ one-mono s true u h = omega (arith, one-le s)
 one-mono s false true h = omega (arith, one-le s)
 one-mono s false false h = rw (h refl refl) (omega arith)
 
--- an AND with one number less is no less
+-- the last bit of an AND
 and-odd : (a b : ℕ) → bitAnd a b % 2 ≡ min (a % 2) (b % 2)
 and-odd a b = ap (λ (n : ℕ). n % 2) (and-step a b) ∙ digits-mod (bitAnd (a / 2) (b / 2)) (omega arith)
 
+-- an AND with one number less is no less
 and-without : (a b c : ℕ) → bitAnd (bitAnd a b) c ≤ bitAnd a c
 and-without =
     bin-ind (λ (a : ℕ). (b c : ℕ) → bitAnd (bitAnd a b) c ≤ bitAnd a c) (λ b c. omega arith)
@@ -63,7 +64,8 @@ module _ (w : ℕ) where
   -- in a blank cell nothing must rise
   pub rises-blank : (x : ℕ) → rises w (blankOf w) x ≡ false
   rises-blank x =
-      no-difference _ _ (value-and w (blankOf w) x ∙ rw (value-blank w, and-comm (blankOf w) (valueOf w x)) (and-mask (valueOf w x) w ∙ value-value w x))
+      no-difference _ _
+      (value-and w (blankOf w) x ∙ rw (value-blank w, and-comm (blankOf w) (valueOf w x)) (and-mask (valueOf w x) w ∙ value-value w x))
 
   -- nor in a cell that holds the image's value
   pub rises-same : (o x : ℕ) → valueOf w o ≡ valueOf w x → rises w o x ≡ false

@@ -14,7 +14,7 @@ use Rattle.parts.proofs.Values.{value-value}
 use Rattle.parts.proofs.Every.{split}
 use Rattle.least.specs.Operations.{Op, Program, Erase, programmed, blanks, erased, perform, performAll, costAll}
 use Rattle.least.specs.LeastTime.{differs, rises, rising, differing, sectorTime, sectorsTime}
-use Rattle.least.specs.Job.{programs, sectorOps, sectorsOps, jobOps, liveOps}
+use Rattle.least.specs.Job.{programs, sectorOps, sectorsOps, jobOps, afterJob, liveOps}
 use Rattle.least.proofs.Lists.{drop-next, map-same}
 use Rattle.least.proofs.Cell.{one-zero, same-value}
 use Rattle.least.proofs.Sector.{choose, rising-blanks, sector-clear, sector-erase}
@@ -111,11 +111,14 @@ module _ (w S : ℕ) where
   sector-run s l v p q e k j =
       choose (λ ops. Leaves ops (p ++ (l ++ q)) p v q) (rising w l v) _ _
       (λ r.
+      let blank : erased w (s * S) S (p ++ (l ++ q)) ≡ p ++ (blanks w v ++ q) =
+      rw (map-same (blankOf w) l v (k ∙ sym j)) at (erased-at (s * S) S l p q e k)
+      in
       let after = programs-run (blanks w v) v (s * S) p q e (length-map v (λ x. blankOf w)) (rising-blanks w v v) in
       record {
         found = after .found;
         values = after .values;
-        ends = ap (performAll w S (programs w (s * S) (blanks w v) v)) (rw (map-same (blankOf w) l v (k ∙ sym j)) at (erased-at (s * S) S l p q e k)) ∙ after .ends;
+        ends = ap (performAll w S (programs w (s * S) (blanks w v) v)) blank ∙ after .ends;
       })
       (λ r. programs-run l v (s * S) p q e (omega arith) r)
 
@@ -166,3 +169,14 @@ module _ (w S f n : ℕ) (cells image : List ℕ) (inside : (f + n) * S ≤ leng
   job-run =
       let e : f * S + n * S ≡ (f + n) * S = omega arith in
       rw (take-append-drop (f * S) cells, drop-drop (n * S) (f * S) cells, e) at (sectors-run w S n start)
+
+  -- it begins and ends as it did
+  pub job-begins : take (f * S) (afterJob w S f n cells image) ≡ take (f * S) cells
+  job-begins = rw (job-run .ends) (take-at (take (f * S) cells) _ (f * S) (start .before))
+
+  pub job-ends : drop ((f + n) * S) (afterJob w S f n cells image) ≡ drop ((f + n) * S) cells
+  job-ends =
+      let p = take (f * S) cells in
+      let m = job-run .found in
+      let e : length (p ++ m) ≡ (f + n) * S = length-append p m ∙ omega (arith, found-length w S job-run, start .before) in
+      rw (job-run .ends, ← append-assoc p m) (drop-at (p ++ m) (drop ((f + n) * S) cells) ((f + n) * S) e)

@@ -1,20 +1,22 @@
 -- The theorems of this crate, for any width w, sector size S and table times tp and te.
 -- The range is the n sectors from sector f on; it lies within the cells.
-use mathlib.Core.Path.{_≡_, _∙_}
+use mathlib.Core.Path.{_≡_}
 use mathlib.Core.Logic.{_⊎_, ⊎-elim}
-use mathlib.Core.List.{List, _++_, append-assoc}
+use mathlib.Core.List.{List}
 use Prim.Native.Nat.{ℕ, suc, _+_, _*_, _≤_, _<_}
+use native.Mathlib.Nat.{add-zero}
 use native.Mathlib.Omega.{arith}
-use lib.ListN.{length, getD, take, drop, length-append, take-append-drop}
-use lib.Seq.{take-at, drop-at, drop-drop}
+use lib.Dec.{ltb}
+use lib.ListN.{length, getD, take, drop, take-append-drop}
+use lib.Seq.{drop-drop}
+use Rattle.parts.specs.Pick.{pick}
 use Rattle.parts.specs.Width.{valueOf}
 use Rattle.least.specs.Operations.{Op, performAll, Holds, costAll}
 use Rattle.least.specs.LeastTime.{rising, differing, nonBlank, sectorTime, leastTime}
 use Rattle.least.specs.Job.{jobOps, afterJob, liveOps}
 use Rattle.least.proofs.Lists.{middle, map-at, begin-alike, end-alike}
-use Rattle.least.proofs.Sector.{sector-clear, sector-erase}
 use Rattle.least.proofs.Bound.{performAll-length, bound}
-use Rattle.least.proofs.Run.{found-length, sectors-cost, live-run, start, job-run}
+use Rattle.least.proofs.Run.{found-length, sectors-cost, live-run, start, job-run, job-begins, job-ends}
 
 module _ (w S tp te f n : ℕ) (cells image : List ℕ) where
   -- Any operations after which the range holds the image take at least the least time.
@@ -43,32 +45,25 @@ module _ (w S f n : ℕ) (cells image : List ℕ) (inside : (f + n) * S ≤ leng
   -- Every cell outside the range is the word that it was, and the number of cells is what it was.
   pub job-elsewhere : (length (afterJob w S f n cells image) ≡ length cells)
       × ((i : ℕ) → (i < f * S) ⊎ ((f + n) * S ≤ i) → getD (afterJob w S f n cells image) i 0 ≡ getD cells i 0)
-  job-elsewhere =
-      let run = job-run w S f n cells image inside whole in
-      let p = take (f * S) cells in
-      let q = drop ((f + n) * S) cells in
-      let before : length p ≡ f * S = start w S f n cells image inside whole .before in
-      let range : length (p ++ run .found) ≡ (f + n) * S = length-append p (run .found) ∙ omega (arith, found-length w S run) in (
-        performAll-length w S (jobOps w S f n cells image) cells,
-        λ i. ⊎-elim
-            (begin-alike (afterJob w S f n cells image) cells (f * S) i (rw (run .ends) (take-at p (run .found ++ q) (f * S) before)))
-            (end-alike (afterJob w S f n cells image) cells ((f + n) * S) i (rw (run .ends, ← append-assoc p (run .found) q) (drop-at (p ++ run .found) q ((f + n) * S) range))),
-      )
+  job-elsewhere = (
+    performAll-length w S (jobOps w S f n cells image) cells,
+    λ i. ⊎-elim (begin-alike _ cells (f * S) i (job-begins w S f n cells image inside whole))
+        (end-alike _ cells ((f + n) * S) i (job-ends w S f n cells image inside whole)),
+  )
 
   -- To decide each sector on the cells as they are when the job comes to it gives the same operations.
   pub job-live : liveOps w S f n cells image ≡ jobOps w S f n cells image
   job-live = rw (take-append-drop (f * S) cells) at (live-run w S n (start w S f n cells image inside whole))
 
--- The least time is that of the first sector and of the rest.
-pub least-more : (w S tp te f n : ℕ) (cells image : List ℕ) → leastTime w S tp te f (suc n) cells image
-    ≡ sectorTime w tp te (take S (drop (f * S) cells)) (take S image) + leastTime w S tp te (suc f) n cells (drop S image)
-least-more w S tp te f n cells image = let e : suc f * S ≡ f * S + S = omega arith in rw (drop-drop S (f * S) cells, e)
+module _ (w S tp te f : ℕ) (cells image : List ℕ) where
+  -- The least time of one sector: where a bit must rise, an erase and a program for each image value that is not blank;
+  -- else a program for each value that differs.
+  pub least-one : let l = take S (drop (f * S) cells) in let v = take S image in
+      leastTime w S tp te f 1 cells image ≡ pick (ltb 0 (rising w l v)) (te + nonBlank w v * tp) (differing w l v * tp)
+  unfolding sectorTime
+  least-one = add-zero _
 
-module _ (w tp te : ℕ) (cells image : List ℕ) where
-  -- One sector in which no bit must rise: a program for each value that differs.
-  pub sector-time-clear : rising w cells image ≡ 0 → sectorTime w tp te cells image ≡ differing w cells image * tp
-  sector-time-clear h = sector-clear w tp te cells image h
-
-  -- One sector in which a bit must rise: an erase, and a program for each image value that is not blank.
-  pub sector-time-rise : 0 < rising w cells image → sectorTime w tp te cells image ≡ te + nonBlank w image * tp
-  sector-time-rise h = sector-erase w tp te cells image h
+  -- The least time of several: that of the first, and of the rest.
+  pub least-more : (n : ℕ) → leastTime w S tp te f (suc n) cells image
+      ≡ leastTime w S tp te f 1 cells image + leastTime w S tp te (suc f) n cells (drop S image)
+  least-more n = let e : suc f * S ≡ f * S + S = omega arith in rw (drop-drop S (f * S) cells, e) (omega arith)

@@ -1,4 +1,5 @@
 -- The least table time for an image: a sum over the sectors, each by how many of its values differ, must rise, or are not blank.
+-- Of a position, o is the cell and x the image's value.
 use mathlib.Core.Bool.{Bool, not}
 use mathlib.Core.List.{List, [], _∷_}
 use Prim.Native.Nat.{ℕ, zero, suc, _+_, _*_}

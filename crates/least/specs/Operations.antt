@@ -13,17 +13,17 @@ pub data Op : Type 0 where
   Erase : ℕ → Op
 
 module _ (w : ℕ) where
-  -- program leaves old AND data, of the cell o and the data d
+  -- program leaves old AND data
   abbrev pub programmed : ℕ → ℕ → ℕ
-  programmed o d = valueOf w (bitAnd o d)
+  programmed old d = valueOf w (bitAnd old d)
 
-  -- erase leaves blank
+  -- erase leaves blank, in each of the cells
   abbrev pub blanks : List ℕ → List ℕ
   blanks cells = map (λ o. blankOf w) cells
 
-  -- count cells from address a on are erased
+  -- the cells, of which so many from address a on are erased
   unfoldable pub erased : ℕ → ℕ → List ℕ → List ℕ
-  erased a count cells = take a cells ++ (blanks (take count (drop a cells)) ++ drop (a + count) cells)
+  erased a many cells = take a cells ++ (blanks (take many (drop a cells)) ++ drop (a + many) cells)
 
 module _ (w S : ℕ) where
   -- what an operation leaves, whatever its address or sector: past the last cell there is nothing to change
