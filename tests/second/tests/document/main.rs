@@ -1,0 +1,4 @@
+//! What document 01 says, as tests of this program.
+
+mod chip;
+mod marked;
