@@ -7,6 +7,10 @@
 pub mod bill;
 pub mod cycle;
 pub mod driver;
+pub mod events;
 pub mod file;
 pub mod job;
+pub mod make;
 pub mod part;
+pub mod random;
+pub mod station;
