@@ -87,36 +87,17 @@ fn accept(
 /// The writes of an accepted command: their number and the list.
 fn list(part: &Part, kind: Kind, address: u32, data: u16) -> (u32, [(u32, u16); 6]) {
     let (u1, u2) = (part.unlock.u1, part.unlock.u2);
-    if kind == Kind::Program {
-        let program = [(u1, 0xAA), (u2, 0x55), (u1, 0xA0), (address, data)];
-        return (
-            4,
-            [
-                program[0],
-                program[1],
-                program[2],
-                program[3],
-                (0, 0),
-                (0, 0),
-            ],
-        );
+    let (first, second) = ((u1, 0xAA), (u2, 0x55));
+    let erase = |last| [first, second, (u1, 0x80), first, second, last];
+    match kind {
+        Kind::Program => {
+            let (arm, last, unused) = ((u1, 0xA0), (address, data), (0, 0));
+            (4, [first, second, arm, last, unused, unused])
+        }
+        Kind::Sector => (6, erase((address, part.sector_code))),
+        Kind::Block => (6, erase((address, part.block_code))),
+        Kind::Chip => (6, erase((u1, 0x10))),
     }
-    let last = match kind {
-        Kind::Sector => (address, part.sector_code),
-        Kind::Block => (address, part.block_code),
-        _ => (u1, 0x10),
-    };
-    (
-        6,
-        [
-            (u1, 0xAA),
-            (u2, 0x55),
-            (u1, 0x80),
-            (u1, 0xAA),
-            (u2, 0x55),
-            last,
-        ],
-    )
 }
 
 /// One command's writes together.

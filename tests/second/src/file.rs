@@ -29,7 +29,7 @@ pub fn parse(bytes: &[u8]) -> Option<JobFile> {
     let zeros = trailer[3] == 0 && trailer[10] == 0 && trailer[11] == 0;
     let level = trailer[2];
     let distance = number(&trailer[12..16]) as usize;
-    if !zeros || level > 1 || distance % 2 != 0 || distance > before {
+    if !zeros || level > 1 || !distance.is_multiple_of(2) || distance > before {
         return None;
     }
     let image = bytes[before - distance..before]

@@ -65,7 +65,7 @@ fn accept(job: &Job, lent: usize) -> Result<&'static Part, u32> {
     }
     let (first, count) = (u64::from(job.first), job.image.len() as u64);
     let sector = u64::from(part.sector());
-    if first % sector != 0 || count % sector != 0 {
+    if !first.is_multiple_of(sector) || !count.is_multiple_of(sector) {
         return Err(6);
     }
     if first + count > u64::from(part.cells) {

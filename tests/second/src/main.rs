@@ -23,27 +23,6 @@ job SEED                              print the raw bytes of a job file
 speed PART P                          time a job over a whole part
 ";
 
-/// The recorded files: kind, seed, number of cases.
-const RECORDED: &[(&str, u64, u64)] = &[
-    ("marked", 0, 1),
-    ("marked-large", 0, 1),
-    ("cycles-bench", 1, 300),
-    ("cycles-sf", 2, 450),
-    ("cycles-vf", 3, 240),
-    ("cycles-wf", 4, 300),
-    ("cycles-large", 5, 240),
-    ("driver-calls", 6, 1_500),
-    ("driver-steps", 7, 800),
-    ("driver-runs", 8, 420),
-    ("driver-runs-large", 9, 160),
-    ("jobs-bench", 10, 100),
-    ("jobs-sf", 11, 120),
-    ("jobs-wf", 12, 60),
-    ("jobs-large", 13, 40),
-    ("files", 14, 600),
-    ("figures", 15, 200),
-];
-
 /// Raw job files for the program `bill`, by their seeds from 0.
 const JOB_FILES: u64 = 24;
 
@@ -95,15 +74,15 @@ fn run_bill() -> Result<(), String> {
 }
 
 /// Makes one of the recorded files.
-fn recorded(name: &str, seed: u64, cases: u64) -> Recorded {
-    make::make(name, seed, cases).expect("a known kind")
+fn recorded(name: &str, seed: u64, cases: u64) -> Result<Recorded, String> {
+    make::make(name, seed, cases).ok_or(format!("no kind {name}"))
 }
 
 fn write_all(directory: &Path) -> Result<(), String> {
     fs::create_dir_all(directory.join("bill")).map_err(text)?;
     let write = |name: String, bytes: &[u8]| fs::write(directory.join(name), bytes).map_err(text);
-    for (name, seed, cases) in RECORDED {
-        let recorded = recorded(name, *seed, *cases);
+    for (name, seed, cases) in make::RECORDED {
+        let recorded = recorded(name, *seed, *cases)?;
         write(format!("{name}.in"), recorded.input.as_bytes())?;
         write(format!("{name}.out"), recorded.expected.as_bytes())?;
     }
@@ -120,8 +99,8 @@ fn write_all(directory: &Path) -> Result<(), String> {
 
 fn count_all() -> Result<(), String> {
     let mut counts = Counts::default();
-    for (name, seed, cases) in RECORDED {
-        counts.merge(&recorded(name, *seed, *cases).counts);
+    for (name, seed, cases) in make::RECORDED {
+        counts.merge(&recorded(name, *seed, *cases)?.counts);
     }
     for (name, number) in counts.list() {
         println!("{number:>8}  {name}");
@@ -132,7 +111,7 @@ fn count_all() -> Result<(), String> {
 fn soak(kind: &str, seed: &str, count: &str, expected: bool) -> Result<(), String> {
     let seed = seed.parse().map_err(text)?;
     let count = count.parse().map_err(text)?;
-    let recorded = make::make(kind, seed, count).ok_or(format!("no kind {kind}"))?;
+    let recorded = recorded(kind, seed, count)?;
     print(if expected {
         recorded.expected.as_bytes()
     } else {

@@ -10,7 +10,7 @@ impl Random {
         Random { state: seed }
     }
 
-    pub fn next(&mut self) -> u64 {
+    fn draw(&mut self) -> u64 {
         self.state = self.state.wrapping_add(0x9E37_79B9_7F4A_7C15);
         let mut z = self.state;
         z = (z ^ (z >> 30)).wrapping_mul(0xBF58_476D_1CE4_E5B9);
@@ -20,7 +20,7 @@ impl Random {
 
     /// A number below `end`, which is above 0.
     pub fn below(&mut self, end: u64) -> u64 {
-        self.next() % end
+        self.draw() % end
     }
 
     /// A number from `low` to `high`, both included.
@@ -59,9 +59,9 @@ impl Random {
     pub fn long(&mut self) -> u64 {
         match self.below(4) {
             0 => self.below(20),
-            1 => self.next() >> 32,
+            1 => self.draw() >> 32,
             2 => self.pick(&[0, 1, 255, 256, 65_535, 65_536, 1 << 31, 0xFFFF_FFFF]),
-            _ => self.next() >> (32 + self.below(32)),
+            _ => self.draw() >> (32 + self.below(32)),
         }
     }
 

@@ -143,7 +143,7 @@ impl Maker {
             1 => self.random.below(256),
             _ => self.random.below(65_536),
         };
-        if self.random.percent(8) {
+        if self.random.percent(16) {
             // A program on an eight-bit part, which looks at the data.
             return (self.random.between(1, 3), 0, address, data);
         }

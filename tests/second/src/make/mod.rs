@@ -163,6 +163,27 @@ const KINDS: &[(&str, usize, Make)] = &[
     ("figures", SMALL, figures::make),
 ];
 
+/// The recorded files: kind, seed, number of cases.
+pub const RECORDED: &[(&str, u64, u64)] = &[
+    ("marked", 0, 1),
+    ("marked-large", 0, 1),
+    ("cycles-bench", 1, 300),
+    ("cycles-sf", 2, 450),
+    ("cycles-vf", 3, 240),
+    ("cycles-wf", 4, 300),
+    ("cycles-large", 5, 240),
+    ("driver-calls", 6, 1_500),
+    ("driver-steps", 7, 800),
+    ("driver-runs", 8, 420),
+    ("driver-runs-large", 9, 160),
+    ("jobs-bench", 10, 100),
+    ("jobs-sf", 11, 120),
+    ("jobs-wf", 12, 60),
+    ("jobs-large", 13, 40),
+    ("files", 14, 600),
+    ("figures", 15, 200),
+];
+
 /// The names of all kinds.
 pub fn kinds() -> Vec<&'static str> {
     KINDS.iter().map(|kind| kind.0).collect()
