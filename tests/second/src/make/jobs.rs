@@ -45,10 +45,12 @@ impl Maker {
             Some(block) => u64::from(self.random.pick(&[block.start, block.end])) / sector,
             None => last,
         };
-        let from = match self.random.below(4) {
+        let from = match self.random.below(6) {
             0 => 0,
             1 => last,
             2 => edge.saturating_sub(self.random.below(3)).min(last),
+            3 => edge.min(last),
+            4 => edge.saturating_sub(sectors).min(last),
             _ => self.random.between(0, last),
         };
         Range {
@@ -58,14 +60,15 @@ impl Maker {
     }
 
     /// A level that lets the range through, mostly low where it may be.
+    /// Nothing is protected from a job of count 0.
     fn level_for(&mut self, range: Range) -> u64 {
         let met = self.part().protected_block().is_some_and(|block| {
             range.first < block.end.into() && range.first + range.count > block.start.into()
         });
-        if met {
+        if met && range.count > 0 {
             1
         } else {
-            self.random.bit()
+            u64::from(self.random.percent(30))
         }
     }
 

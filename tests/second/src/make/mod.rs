@@ -176,11 +176,11 @@ pub const RECORDED: &[(&str, u64, u64)] = &[
     ("driver-steps", 7, 800),
     ("driver-runs", 8, 420),
     ("driver-runs-large", 9, 160),
-    ("jobs-bench", 10, 100),
+    ("jobs-bench", 10, 150),
     ("jobs-sf", 11, 120),
     ("jobs-wf", 12, 60),
-    ("jobs-large", 13, 40),
-    ("files", 14, 600),
+    ("jobs-large", 13, 50),
+    ("files", 14, 800),
     ("figures", 15, 200),
 ];
 
