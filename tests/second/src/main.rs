@@ -24,7 +24,7 @@ speed PART P                          time a job over a whole part
 ";
 
 /// Raw job files for the program `bill`, by their seeds from 0.
-const JOB_FILES: u64 = 24;
+const JOB_FILES: u64 = 40;
 
 fn main() -> ExitCode {
     let arguments: Vec<String> = std::env::args().skip(1).collect();
@@ -86,15 +86,14 @@ fn write_all(directory: &Path) -> Result<(), String> {
         write(format!("{name}.in"), recorded.input.as_bytes())?;
         write(format!("{name}.out"), recorded.expected.as_bytes())?;
     }
+    let write_job = |name: &str, bytes: &[u8]| {
+        write(format!("bill/{name}.job"), bytes)?;
+        write(format!("bill/{name}.out"), bill::print(bytes).as_bytes())
+    };
     for seed in 0..JOB_FILES {
-        let bytes = make::job_file(seed);
-        write(format!("bill/{seed:02}.job"), &bytes)?;
-        write(
-            format!("bill/{seed:02}.out"),
-            bill::print(&bytes).as_bytes(),
-        )?;
+        write_job(&format!("{seed:02}"), &make::job_file(seed))?;
     }
-    Ok(())
+    write_job("marked", &make::marked_file())
 }
 
 fn count_all() -> Result<(), String> {

@@ -54,6 +54,14 @@ pub fn job_file(seed: u64) -> Vec<u8> {
     bytes
 }
 
+/// The raw bytes of marked case 10.
+pub fn marked_file() -> Vec<u8> {
+    let mut bytes = vec![0xFF; 4_096];
+    bytes[10..12].copy_from_slice(&[0x34, 0x12]);
+    bytes.extend(trailer(0, 1, 0, 10, 4_096));
+    bytes
+}
+
 /// A trailer from its numbers.
 fn trailer(part: u64, level: u64, first: u64, p: u64, distance: u64) -> Vec<u8> {
     let mut bytes = Vec::new();

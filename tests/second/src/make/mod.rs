@@ -7,6 +7,8 @@ mod files;
 mod jobs;
 mod marked;
 
+pub use files::{job_file, marked_file};
+
 use crate::events::{Before, Counts, Watch};
 use crate::part::Part;
 use crate::random::Random;
@@ -195,9 +197,4 @@ pub fn make(name: &str, seed: u64, cases: u64) -> Option<Recorded> {
     let mut maker = Maker::new(seed, *cells);
     make(&mut maker, cases);
     Some(maker.finish())
-}
-
-/// A job file by its seed, as raw bytes for the program `bill`.
-pub fn job_file(seed: u64) -> Vec<u8> {
-    files::job_file(seed)
 }
