@@ -1,0 +1,669 @@
+//! Counts what happens in the recorded cases, to show that they reach the
+//! interesting places.
+
+use std::collections::BTreeMap;
+
+use crate::cycle::{in_range, Device, Mode};
+use crate::driver::{self, Driver};
+use crate::part::{Kind, Part};
+use crate::station::{op, Station};
+
+/// Every event that is counted. Each has to occur often.
+const NAMES: &[&str] = &[
+    "cycle: read at rest",
+    "cycle: read busy",
+    "cycle: read busy, bit 6 shows 0",
+    "cycle: read busy, bit 7 shows 1",
+    "cycle: read in identification, maker",
+    "cycle: read in identification, device",
+    "cycle: read in identification, other",
+    "cycle: read inside a sequence",
+    "cycle: read of a cell above 255, eight-bit part",
+    "cycle: write busy",
+    "cycle: idle",
+    "cycle: idle inside a sequence",
+    "cycle: continued stage 0",
+    "cycle: continued stage 1",
+    "cycle: continued stage 2",
+    "cycle: continued stage 4",
+    "cycle: continued stage 5",
+    "cycle: broken stage 0",
+    "cycle: broken stage 1",
+    "cycle: broken stage 2",
+    "cycle: broken stage 4",
+    "cycle: broken stage 5",
+    "cycle: broken stage 6",
+    "cycle: broken by AAH at U1",
+    "cycle: broken by 50H, parts 1 to 3",
+    "cycle: broken by 10H off U1",
+    "cycle: broken in identification",
+    "cycle: unlock at an alias address",
+    "cycle: code with a high byte",
+    "cycle: entered identification",
+    "cycle: left identification by the command F0H",
+    "cycle: left identification by a start",
+    "cycle: WP# switched inside a sequence",
+    "cycle: WP# switched at the last write",
+    "cycle: program started",
+    "cycle: sector started",
+    "cycle: block started",
+    "cycle: chip started",
+    "cycle: program completed",
+    "cycle: sector completed",
+    "cycle: block completed",
+    "cycle: chip completed",
+    "cycle: program cut",
+    "cycle: sector cut",
+    "cycle: block cut",
+    "cycle: chip cut",
+    "cycle: program ignored by protection",
+    "cycle: sector ignored by protection",
+    "cycle: block ignored by protection",
+    "cycle: chip ignored by protection",
+    "cycle: program in the protected block started, WP# high",
+    "cycle: erase in the protected block started, WP# high",
+    "cycle: started outside the protected block, WP# low",
+    "cycle: time one below the time left",
+    "cycle: time equal to the time left",
+    "cycle: time one above the time left",
+    "cycle: cut at the time left or later",
+    "cycle: cut at rest",
+    "cycle: cut in identification",
+    "cycle: cut inside a sequence",
+    "cycle: program over a cell above 255, eight-bit part",
+    "cycle: erase over cells above 255, eight-bit part",
+    "cycle: program cut over a cell above 255, eight-bit part",
+    "cycle: erase cut over cells above 255, eight-bit part",
+    "cycle: stray fields passed through",
+    "cycle: started from stray fields",
+    "cycle: refusal 1",
+    "cycle: refusal 2",
+    "cycle: refusal 5",
+    "cycle: refusal 3",
+    "cycle: refusal 4",
+    "cycle: refused while busy",
+    "cycle: several faults at once",
+    "cycle: refusal 5 by stage above 6, nothing running",
+    "cycle: refusal 5 by kind only",
+    "cycle: refusal 5 by block on parts 1 to 3 only",
+    "cycle: refusal 5 by time left only",
+    "cycle: refusal 5 by address only",
+    "cycle: refusal 5 by data only",
+    "cycle: refusal 5 by identification only",
+    "cycle: refusal 5 by a sequence only",
+    "figure: answer 0",
+    "figure: refusal 1",
+    "figure: refusal 15",
+    "writes: answer 0",
+    "writes: refusal 1",
+    "writes: refusal 14",
+    "writes: refusal 3",
+    "writes: refusal 4",
+    "k-th: answer 0",
+    "k-th: refusal 1",
+    "k-th: refusal 14",
+    "k-th: refusal 3",
+    "k-th: refusal 4",
+    "k-th: refusal 15",
+    "start: program",
+    "start: sector",
+    "start: block",
+    "start: chip",
+    "start: refusal 1",
+    "start: refusal 10",
+    "start: refusal 14",
+    "start: refusal 3",
+    "start: refusal 4",
+    "step: names a write",
+    "step: names the last write",
+    "step: names the first poll",
+    "step: names a later poll",
+    "step: names the confirming read",
+    "step: ends with 0",
+    "step: ends with 11",
+    "step: ends with 12",
+    "step: match at the last poll allowed",
+    "step: repeats the ending 0",
+    "step: repeats the ending 11",
+    "step: repeats the ending 12",
+    "step: refusal 5 by the start",
+    "step: refusal 5 by the phase",
+    "step: refusal 5 by the count",
+    "run: ends with 0",
+    "run: ends with 11",
+    "run: ends with 12",
+    "run: stopped by its limit",
+    "run: stopped by a refused cycle",
+    "job: accepted",
+    "job: count 0",
+    "job: sector erased",
+    "job: sector not erased",
+    "job: nothing to program",
+    "job: refusal 1",
+    "job: refusal 2",
+    "job: refusal 10",
+    "job: refusal 6",
+    "job: refusal 7",
+    "job: refusal 8",
+    "job: refusal 9",
+    "second call: none sent",
+    "second call: ends with a scan or confirming read",
+    "second call: ends with a confirming read",
+    "second call: ends with a write",
+    "second call: ends with a poll",
+    "second call: ends with an operation running",
+    "second call: k past the list",
+    "second call: refused",
+    "file: sound",
+    "file: refusal 13",
+    "bill: answer 0",
+    "bill: answer 1",
+    "bill: answer 2",
+    "bill: answer 6",
+    "bill: answer 7",
+    "bill: answer 9",
+    "bill: answer 10",
+    "bill: answer 13",
+];
+
+/// The counts of all events.
+pub struct Counts {
+    numbers: BTreeMap<&'static str, u64>,
+}
+
+impl Default for Counts {
+    fn default() -> Self {
+        Counts {
+            numbers: NAMES.iter().map(|name| (*name, 0)).collect(),
+        }
+    }
+}
+
+impl Counts {
+    /// Counts one event, which has to be of the list.
+    pub fn add(&mut self, name: &str) {
+        self.add_many(name, 1);
+    }
+
+    fn add_many(&mut self, name: &str, number: u64) {
+        *self
+            .numbers
+            .get_mut(name)
+            .unwrap_or_else(|| panic!("no event {name:?}")) += number;
+    }
+
+    fn add_if(&mut self, holds: bool, name: &str) {
+        if holds {
+            self.add(name);
+        }
+    }
+
+    /// Adds the counts of another run.
+    pub fn merge(&mut self, other: &Counts) {
+        for (name, number) in &other.numbers {
+            self.add_many(name, *number);
+        }
+    }
+
+    /// The counts in the order of the list.
+    pub fn list(&self) -> Vec<(&'static str, u64)> {
+        NAMES
+            .iter()
+            .map(|name| (*name, self.numbers[name]))
+            .collect()
+    }
+}
+
+/// The names of the kinds in the events.
+const KINDS: [&str; 4] = ["program", "sector", "block", "chip"];
+
+/// Watches the commands given to a station.
+#[derive(Default)]
+pub struct Watch {
+    pub counts: Counts,
+    /// The WP# level of the last write.
+    last_wp: u64,
+}
+
+/// What is kept of a station before a command.
+pub struct Before {
+    part: u32,
+    device: Device,
+    driver: Driver,
+    lent: usize,
+    /// Does the running operation's range hold a cell above 255?
+    high_cells: bool,
+}
+
+impl Before {
+    pub fn of(station: &Station) -> Before {
+        Before {
+            part: station.part,
+            device: station.device,
+            driver: station.driver,
+            lent: station.lent,
+            high_cells: high_cells(station),
+        }
+    }
+}
+
+/// The part and kind of the operation that runs in a valid state.
+fn running(number: u32, device: &Device) -> Option<(&'static Part, Kind)> {
+    let part = Part::get(number)?;
+    if device.left == 0 || !in_range(part, device) {
+        return None;
+    }
+    Some((part, Kind::from_number(device.kind)?))
+}
+
+/// Does the running operation's range hold a cell above 255, on an eight-bit
+/// part?
+fn high_cells(station: &Station) -> bool {
+    match running(station.part, &station.device) {
+        Some((part, kind)) if part.width == 8 => {
+            let range = part.range(kind, station.device.address);
+            station.cells[range.start as usize..range.end as usize]
+                .iter()
+                .any(|cell| *cell > 255)
+        }
+        _ => false,
+    }
+}
+
+impl Watch {
+    /// Counts the events of one command; `printed` is the line it printed.
+    pub fn see(&mut self, before: &Before, station: &Station, command: &[u64], printed: &[u64]) {
+        match command[0] {
+            op::READ..=op::CUT => self.see_cycle(before, station, command, printed),
+            op::FIGURE => self.see_answer("figure", printed[1]),
+            op::WRITES => self.see_answer("writes", printed[1]),
+            op::KTH => self.see_answer("k-th", printed[1]),
+            op::START if printed[1] == 0 => {
+                let kind = KINDS[command[2] as usize];
+                self.counts.add(&format!("start: {kind}"));
+            }
+            op::START => self.see_answer("start", printed[1]),
+            op::STEP => self.see_step(&before.driver, &station.driver, printed),
+            op::RUN => self.see_run(printed),
+            op::LOAD => self.see_load(station, printed),
+            op::FIRST => self.see_first(command, printed),
+            op::PARSE if printed[1] == 0 => self.counts.add("file: sound"),
+            op::PARSE => self.counts.add("file: refusal 13"),
+            op::BILL => {
+                let answer = printed[printed.len() - 1];
+                self.counts.add(&format!("bill: answer {answer}"));
+            }
+            _ => {}
+        }
+    }
+
+    /// An answer that is 0 or a refusal.
+    fn see_answer(&mut self, place: &str, answer: u64) {
+        let what = if answer == 0 { "answer" } else { "refusal" };
+        self.counts.add(&format!("{place}: {what} {answer}"));
+    }
+
+    fn see_cycle(&mut self, before: &Before, station: &Station, command: &[u64], printed: &[u64]) {
+        if printed[1] != 0 {
+            self.see_refused_cycle(before, command, printed[1]);
+            return;
+        }
+        let part = Part::get(before.part).expect("an accepted part");
+        let left = before.device.left;
+        let elapsed = command[1];
+        if left > 0 {
+            let left = u64::from(left);
+            let edges = [
+                (left - 1, "cycle: time one below the time left"),
+                (left, "cycle: time equal to the time left"),
+                (left + 1, "cycle: time one above the time left"),
+            ];
+            for (edge, name) in edges {
+                self.counts.add_if(elapsed == edge, name);
+            }
+            self.see_operation(before, part, elapsed >= left, command);
+        }
+        let busy = u64::from(left) > elapsed;
+        match command[0] {
+            op::READ if busy => self.see_busy_read(printed[2]),
+            op::READ => self.see_read(before, station, part, command[3]),
+            op::WRITE if busy => self.counts.add("cycle: write busy"),
+            op::WRITE => self.see_write(before, &station.device, part, command),
+            op::IDLE => {
+                self.counts.add("cycle: idle");
+                self.counts
+                    .add_if(before.device.stage > 0, "cycle: idle inside a sequence");
+            }
+            _ if left == 0 => {
+                let device = &before.device;
+                self.counts.add("cycle: cut at rest");
+                self.counts.add_if(
+                    device.mode == Mode::Identification,
+                    "cycle: cut in identification",
+                );
+                self.counts
+                    .add_if(device.stage > 0, "cycle: cut inside a sequence");
+            }
+            _ => {}
+        }
+    }
+
+    /// A refused bus cycle, its grounds and their number.
+    fn see_refused_cycle(&mut self, before: &Before, command: &[u64], answer: u64) {
+        self.counts.add(&format!("cycle: refusal {answer}"));
+        let Some(part) = Part::get(before.part) else {
+            return;
+        };
+        self.counts.add_if(
+            running(before.part, &before.device).is_some(),
+            "cycle: refused while busy",
+        );
+        let addressed = matches!(command[0], op::READ | op::WRITE);
+        let faults = [
+            before.lent != part.cells as usize,
+            !in_range(part, &before.device),
+            addressed && command[3] >= u64::from(part.cells),
+            command[0] == op::WRITE && command[4] > u64::from(part.blank()),
+        ];
+        self.counts.add_if(
+            faults.iter().filter(|fault| **fault).count() > 1,
+            "cycle: several faults at once",
+        );
+        if answer == 5 {
+            self.see_grounds(part, &before.device);
+        }
+    }
+
+    /// The grounds of a refusal 5 that stand alone.
+    fn see_grounds(&mut self, part: &Part, device: &Device) {
+        if device.left == 0 {
+            let name = "cycle: refusal 5 by stage above 6, nothing running";
+            self.counts.add(name);
+            return;
+        }
+        let kind = Kind::from_number(device.kind);
+        let time = kind.map(|kind| part.time(kind));
+        let grounds = [
+            (kind.is_none(), "cycle: refusal 5 by kind only"),
+            (
+                kind.is_some_and(|kind| !part.knows(kind)),
+                "cycle: refusal 5 by block on parts 1 to 3 only",
+            ),
+            (
+                time.is_some_and(|time| device.left > time),
+                "cycle: refusal 5 by time left only",
+            ),
+            (
+                device.address >= part.cells,
+                "cycle: refusal 5 by address only",
+            ),
+            (device.data > part.blank(), "cycle: refusal 5 by data only"),
+            (
+                device.mode == Mode::Identification,
+                "cycle: refusal 5 by identification only",
+            ),
+            (device.stage > 0, "cycle: refusal 5 by a sequence only"),
+        ];
+        let holding: Vec<&str> = grounds
+            .iter()
+            .filter(|ground| ground.0)
+            .map(|ground| ground.1)
+            .collect();
+        if let [name] = holding[..] {
+            self.counts.add(name);
+        }
+    }
+
+    /// An operation that completes or is cut in this cycle.
+    fn see_operation(&mut self, before: &Before, part: &Part, over: bool, command: &[u64]) {
+        let Some((_, kind)) = running(before.part, &before.device) else {
+            return;
+        };
+        let cut = command[0] == op::CUT;
+        self.counts
+            .add_if(cut && over, "cycle: cut at the time left or later");
+        let name = KINDS[kind.number() as usize];
+        if over {
+            self.counts.add(&format!("cycle: {name} completed"));
+        } else if cut {
+            self.counts.add(&format!("cycle: {name} cut"));
+        } else {
+            return;
+        }
+        if before.high_cells && part.width == 8 {
+            self.counts.add(match (kind, over) {
+                (Kind::Program, true) => "cycle: program over a cell above 255, eight-bit part",
+                (Kind::Program, false) => {
+                    "cycle: program cut over a cell above 255, eight-bit part"
+                }
+                (_, true) => "cycle: erase over cells above 255, eight-bit part",
+                (_, false) => "cycle: erase cut over cells above 255, eight-bit part",
+            });
+        }
+    }
+
+    fn see_busy_read(&mut self, value: u64) {
+        self.counts.add("cycle: read busy");
+        self.counts
+            .add_if(value & 0x40 == 0, "cycle: read busy, bit 6 shows 0");
+        self.counts
+            .add_if(value & 0x80 != 0, "cycle: read busy, bit 7 shows 1");
+    }
+
+    fn see_read(&mut self, before: &Before, station: &Station, part: &Part, address: u64) {
+        let device = &before.device;
+        self.counts
+            .add_if(device.stage > 0, "cycle: read inside a sequence");
+        if device.mode == Mode::Identification {
+            self.counts.add(match address {
+                0 => "cycle: read in identification, maker",
+                1 => "cycle: read in identification, device",
+                _ => "cycle: read in identification, other",
+            });
+            return;
+        }
+        self.counts.add("cycle: read at rest");
+        self.counts.add_if(
+            part.width == 8 && station.cells[address as usize] > 255,
+            "cycle: read of a cell above 255, eight-bit part",
+        );
+    }
+
+    /// A write at rest.
+    fn see_write(&mut self, before: &Before, after: &Device, part: &Part, command: &[u64]) {
+        let (wp, address, data) = (command[2], command[3] as u32, command[4] as u16);
+        let completed = before.device.left > 0;
+        let device = if completed {
+            Device::default()
+        } else {
+            before.device
+        };
+        let stray = device.address != 0 || device.data != 0 || device.kind != 0 || device.toggle;
+        let switched = device.stage > 0 && wp != self.last_wp;
+        self.last_wp = wp;
+        self.counts
+            .add_if(switched, "cycle: WP# switched inside a sequence");
+        let asked = match device.stage {
+            3 => Some(Kind::Program),
+            6 => part.erase(address, data),
+            _ => None,
+        };
+        if let Some(kind) = asked {
+            self.counts
+                .add_if(switched, "cycle: WP# switched at the last write");
+            self.see_last_write(&device, part, kind, address, wp == 1);
+            self.counts
+                .add_if(stray && after.left > 0, "cycle: started from stray fields");
+            return;
+        }
+        self.counts
+            .add_if(stray, "cycle: stray fields passed through");
+        let command = device.stage == 2 && part.is_u1(address);
+        let identified = device.mode == Mode::Identification;
+        let entered = command && data & 0xFF == 0x90;
+        let left = command && data & 0xFF == 0xF0;
+        self.counts.add_if(entered, "cycle: entered identification");
+        self.counts.add_if(
+            left && identified,
+            "cycle: left identification by the command F0H",
+        );
+        if after.stage > 0 || entered || left {
+            self.counts
+                .add(&format!("cycle: continued stage {}", device.stage));
+            self.counts
+                .add_if(data > 255, "cycle: code with a high byte");
+            self.counts.add_if(
+                address > part.unlock.mask,
+                "cycle: unlock at an alias address",
+            );
+            return;
+        }
+        self.counts
+            .add(&format!("cycle: broken stage {}", device.stage));
+        self.counts
+            .add_if(identified, "cycle: broken in identification");
+        let code = data & 0xFF;
+        self.counts.add_if(
+            code == 0xAA && part.is_u1(address),
+            "cycle: broken by AAH at U1",
+        );
+        self.counts.add_if(
+            device.stage == 6 && code == 0x50,
+            "cycle: broken by 50H, parts 1 to 3",
+        );
+        self.counts.add_if(
+            device.stage == 6 && code == 0x10,
+            "cycle: broken by 10H off U1",
+        );
+    }
+
+    /// A last write: it starts its operation or is ignored.
+    fn see_last_write(
+        &mut self,
+        device: &Device,
+        part: &Part,
+        kind: Kind,
+        address: u32,
+        wp_high: bool,
+    ) {
+        let name = KINDS[kind.number() as usize];
+        if part.protects(kind, address, wp_high) {
+            self.counts
+                .add(&format!("cycle: {name} ignored by protection"));
+            return;
+        }
+        self.counts.add(&format!("cycle: {name} started"));
+        self.counts.add_if(
+            device.mode == Mode::Identification,
+            "cycle: left identification by a start",
+        );
+        let Some(block) = part.protected_block() else {
+            return;
+        };
+        match (kind, wp_high, block.contains(&address)) {
+            (Kind::Program, true, true) => self
+                .counts
+                .add("cycle: program in the protected block started, WP# high"),
+            (Kind::Sector | Kind::Block, true, true) => self
+                .counts
+                .add("cycle: erase in the protected block started, WP# high"),
+            (_, false, _) => self
+                .counts
+                .add("cycle: started outside the protected block, WP# low"),
+            _ => {}
+        }
+    }
+
+    fn see_step(&mut self, before: &Driver, after: &Driver, printed: &[u64]) {
+        let (answer, kind) = (printed[1], printed[2]);
+        if answer == 5 {
+            let start = driver::start(
+                before.part,
+                before.command,
+                before.address,
+                before.data,
+                before.p,
+            );
+            self.counts.add(if start.0 != 0 {
+                "step: refusal 5 by the start"
+            } else if before.phase > driver::DIFFERS {
+                "step: refusal 5 by the phase"
+            } else {
+                "step: refusal 5 by the count"
+            });
+            return;
+        }
+        match (kind, after.phase) {
+            (0, _) if before.phase > driver::CONFIRMING => {
+                self.counts
+                    .add(&format!("step: repeats the ending {answer}"));
+            }
+            (0, _) => self.counts.add(&format!("step: ends with {answer}")),
+            (2, driver::WRITING) => self.counts.add("step: names a write"),
+            (2, _) => self.counts.add("step: names the last write"),
+            (_, driver::CONFIRMING) => {
+                self.counts.add("step: names the confirming read");
+                let again = Driver {
+                    phase: driver::GAVE_UP,
+                    ..*after
+                };
+                self.counts.add_if(
+                    driver::step(again, 0).answer == 11,
+                    "step: match at the last poll allowed",
+                );
+            }
+            _ if after.count == 1 => self.counts.add("step: names the first poll"),
+            _ => self.counts.add("step: names a later poll"),
+        }
+    }
+
+    fn see_run(&mut self, printed: &[u64]) {
+        let (answer, kind, refused) = (printed[1], printed[2], printed[5]);
+        if refused != 0 {
+            self.counts.add("run: stopped by a refused cycle");
+        } else if kind != 0 {
+            self.counts.add("run: stopped by its limit");
+        } else {
+            self.counts.add(&format!("run: ends with {answer}"));
+        }
+    }
+
+    fn see_load(&mut self, station: &Station, printed: &[u64]) {
+        let answer = printed[9];
+        if answer != 0 {
+            self.counts.add(&format!("job: refusal {answer}"));
+            return;
+        }
+        let part = Part::get(station.part).expect("an accepted part");
+        let sectors = station.image.len() as u64 / u64::from(part.sector());
+        let (erases, programs) = (printed[3], printed[4]);
+        self.counts.add("job: accepted");
+        self.counts.add_if(sectors == 0, "job: count 0");
+        self.counts
+            .add_if(sectors > 0 && programs == 0, "job: nothing to program");
+        self.counts.add_many("job: sector erased", erases);
+        self.counts
+            .add_many("job: sector not erased", sectors - erases);
+    }
+
+    fn see_first(&mut self, command: &[u64], printed: &[u64]) {
+        let (answer, sent, kind, elapsed) = (printed[1], printed[2], printed[3], printed[4]);
+        if answer != 0 {
+            self.counts.add("second call: refused");
+            return;
+        }
+        self.counts
+            .add_if(command[4] > sent, "second call: k past the list");
+        let (begun, confirms) = (printed[9] + printed[10], printed[13]);
+        self.counts.add(match kind {
+            0 => "second call: none sent",
+            2 => "second call: ends with a write",
+            _ if elapsed > 0 => "second call: ends with a poll",
+            _ => "second call: ends with a scan or confirming read",
+        });
+        self.counts.add_if(
+            begun > confirms,
+            "second call: ends with an operation running",
+        );
+    }
+}

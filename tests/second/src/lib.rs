@@ -1,0 +1,16 @@
+//! The independent second program of the station: document 01 written down
+//! once more, from the paper alone, as the oracle for the proved one.
+//!
+//! The modules follow the document: the parts, the bus cycle, the driver, the
+//! job and its second call, the job file and `bill`.
+
+pub mod bill;
+pub mod cycle;
+pub mod driver;
+pub mod events;
+pub mod file;
+pub mod job;
+pub mod make;
+pub mod part;
+pub mod random;
+pub mod station;

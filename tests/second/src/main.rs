@@ -1,0 +1,152 @@
+//! The command line: `bill`, and recorded cases.
+
+use std::fs;
+use std::io::{self, Read, Write};
+use std::path::Path;
+use std::process::ExitCode;
+use std::time::Instant;
+
+use second::bill;
+use second::events::Counts;
+use second::job::{load, Job};
+use second::make::{self, Recorded};
+use second::part::Part;
+use second::station::{replay, LARGE};
+
+const USAGE: &str = "\
+bill                                  act as the program bill on standard input
+write DIR                             write all recorded files
+count                                 print the event counts of the recorded files
+soak KIND SEED COUNT [--expected]     print COUNT cases of a kind, or what they print
+run                                   run the cases of standard input
+job SEED                              print the raw bytes of a job file
+speed PART P                          time a job over a whole part
+";
+
+/// Raw job files for the program `bill`, by their seeds from 0.
+const JOB_FILES: u64 = 40;
+
+fn main() -> ExitCode {
+    let arguments: Vec<String> = std::env::args().skip(1).collect();
+    let words: Vec<&str> = arguments.iter().map(String::as_str).collect();
+    let result = match words[..] {
+        ["bill"] => run_bill(),
+        ["write", directory] => write_all(Path::new(directory)),
+        ["count"] => count_all(),
+        ["soak", kind, seed, count] => soak(kind, seed, count, false),
+        ["soak", kind, seed, count, "--expected"] => soak(kind, seed, count, true),
+        ["run"] => run_cases(),
+        ["job", seed] => print_job(seed),
+        ["speed", part, p] => speed(part, p),
+        _ => Err(format!("usage:\n{USAGE}kinds: {}", make::kinds().join(" "))),
+    };
+    match result {
+        Ok(()) => ExitCode::SUCCESS,
+        Err(message) => {
+            eprintln!("{message}");
+            ExitCode::FAILURE
+        }
+    }
+}
+
+fn text<E: ToString>(error: E) -> String {
+    error.to_string()
+}
+
+fn print(bytes: &[u8]) -> Result<(), String> {
+    io::stdout().write_all(bytes).map_err(text)
+}
+
+fn read_all() -> Result<Vec<u8>, String> {
+    let mut bytes = Vec::new();
+    io::stdin().read_to_end(&mut bytes).map_err(text)?;
+    Ok(bytes)
+}
+
+fn run_bill() -> Result<(), String> {
+    let mut bytes = Vec::new();
+    // One byte more than `bill` takes tells that a file is too long.
+    io::stdin()
+        .take(bill::LONGEST as u64 + 1)
+        .read_to_end(&mut bytes)
+        .map_err(text)?;
+    print(bill::print(&bytes).as_bytes())
+}
+
+/// Makes one of the recorded files.
+fn recorded(name: &str, seed: u64, cases: u64) -> Result<Recorded, String> {
+    make::make(name, seed, cases).ok_or(format!("no kind {name}"))
+}
+
+fn write_all(directory: &Path) -> Result<(), String> {
+    fs::create_dir_all(directory.join("bill")).map_err(text)?;
+    let write = |name: String, bytes: &[u8]| fs::write(directory.join(name), bytes).map_err(text);
+    for (name, seed, cases) in make::RECORDED {
+        let recorded = recorded(name, *seed, *cases)?;
+        write(format!("{name}.in"), recorded.input.as_bytes())?;
+        write(format!("{name}.out"), recorded.expected.as_bytes())?;
+    }
+    let write_job = |name: &str, bytes: &[u8]| {
+        write(format!("bill/{name}.job"), bytes)?;
+        write(format!("bill/{name}.out"), bill::print(bytes).as_bytes())
+    };
+    for seed in 0..JOB_FILES {
+        write_job(&format!("{seed:02}"), &make::job_file(seed))?;
+    }
+    write_job("marked", &make::marked_file())
+}
+
+fn count_all() -> Result<(), String> {
+    let mut counts = Counts::default();
+    for (name, seed, cases) in make::RECORDED {
+        counts.merge(&recorded(name, *seed, *cases)?.counts);
+    }
+    for (name, number) in counts.list() {
+        println!("{number:>8}  {name}");
+    }
+    Ok(())
+}
+
+fn soak(kind: &str, seed: &str, count: &str, expected: bool) -> Result<(), String> {
+    let seed = seed.parse().map_err(text)?;
+    let count = count.parse().map_err(text)?;
+    let recorded = recorded(kind, seed, count)?;
+    print(if expected {
+        recorded.expected.as_bytes()
+    } else {
+        recorded.input.as_bytes()
+    })
+}
+
+fn run_cases() -> Result<(), String> {
+    let input = String::from_utf8(read_all()?).map_err(text)?;
+    print(replay(&input, LARGE)?.as_bytes())
+}
+
+fn print_job(seed: &str) -> Result<(), String> {
+    print(&make::job_file(seed.parse().map_err(text)?))
+}
+
+/// A job over a whole part whose every sector is erased and every cell
+/// programmed.
+fn speed(part: &str, p: &str) -> Result<(), String> {
+    let (number, p) = (part.parse().map_err(text)?, p.parse().map_err(text)?);
+    let part = Part::get(number).ok_or("no such part")?;
+    let mut cells = vec![0; part.cells as usize];
+    let image: Vec<u16> = (0..part.cells).map(|at| at as u16 & 0x7F).collect();
+    let job = Job {
+        part: number,
+        first: 0,
+        image: &image,
+        wp_high: true,
+        p,
+    };
+    let begin = Instant::now();
+    let bill = load(&job, &mut cells);
+    let seconds = begin.elapsed().as_secs_f64();
+    let writes = 6 * bill.erases + 4 * bill.programs;
+    let cycles = writes + bill.polls + bill.scans + bill.confirms;
+    println!("{bill:?}");
+    println!("{cycles} cycles in {seconds:.3} s");
+    Ok(())
+}

@@ -1,0 +1,138 @@
+//! The marked cases of document 01 as recorded cases.
+
+use super::Maker;
+use crate::part::Part;
+use crate::station::op;
+
+impl Maker {
+    /// A new chip of a part with all cells alike.
+    fn even_chip(&mut self, number: u64, value: u64) {
+        let cells = Part::get(number as u32).expect("a known part").cells;
+        self.send(&[op::CHIP, number, cells.into(), value, 0, 65_535]);
+    }
+
+    /// Writes with WP# at a level and no time between.
+    fn writes(&mut self, wp: u64, list: &[(u64, u64)]) {
+        for (address, data) in list {
+            self.send(&[op::WRITE, 0, wp, *address, *data]);
+        }
+    }
+
+    /// AAH at U1, 55H at U2 and a code at U1, by the plain addresses.
+    fn third(&mut self, wp: u64, code: u64) {
+        let (u1, u2) = (self.part().unlock.u1, self.part().unlock.u2);
+        self.writes(
+            wp,
+            &[(u1.into(), 0xAA), (u2.into(), 0x55), (u1.into(), code)],
+        );
+    }
+
+    fn program(&mut self, wp: u64, address: u64, data: u64) {
+        self.third(wp, 0xA0);
+        self.writes(wp, &[(address, data)]);
+    }
+
+    fn erase(&mut self, wp: u64, address: u64, code: u64) {
+        let (u1, u2) = (self.part().unlock.u1, self.part().unlock.u2);
+        self.third(wp, 0x80);
+        self.writes(wp, &[(u1.into(), 0xAA), (u2.into(), 0x55), (address, code)]);
+    }
+
+    /// Case 1 on this part.
+    fn case_1(&mut self, number: u64) {
+        self.even_chip(number, 0);
+        self.erase(1, 2_053, 0x50);
+        self.send(&[op::IDLE, 36_000, 1]);
+        for edge in [0, 2_048, 4_096, 32_768] {
+            self.send(&[op::HASH, 0, edge]);
+            self.send(&[op::CELL, edge]);
+        }
+        self.send(&[op::HASH, 0, 1_048_576]);
+    }
+}
+
+/// The cases of parts 0 to 8.
+pub fn make(maker: &mut Maker, _: u64) {
+    maker.send(&[op::MARK, 1]);
+    maker.case_1(7);
+
+    maker.send(&[op::MARK, 2]);
+    maker.even_chip(5, 0xFFFF);
+    maker.send(&[op::PATCH, 100, 0x00F0]);
+    maker.program(1, 100, 0x0F0F);
+    maker.send(&[op::READ, 14, 1, 100]);
+    maker.send(&[op::CELL, 100]);
+
+    maker.send(&[op::MARK, 3]);
+    maker.program(1, 101, 0x1234);
+    maker.send(&[op::READ, 13, 1, 101]);
+    maker.send(&[op::READ, 1, 1, 101]);
+    maker.program(1, 102, 0x1234);
+    maker.send(&[op::READ, 14, 1, 102]);
+
+    maker.send(&[op::MARK, 4]);
+    maker.program(1, 103, 0);
+    maker.send(&[op::READ, 0, 1, 103]);
+    maker.send(&[op::READ, 0, 1, 103]);
+    maker.send(&[op::IDLE, 14, 1]);
+    maker.erase(1, 103, 0x30);
+    maker.send(&[op::READ, 0, 1, 103]);
+    maker.send(&[op::READ, 0, 1, 103]);
+    maker.send(&[op::IDLE, 18_000, 1]);
+
+    maker.send(&[op::MARK, 5]);
+    maker.writes(
+        1,
+        &[
+            (0x5555, 0xAA),
+            (0x5555, 0xAA),
+            (0x2AAA, 0x55),
+            (0x5555, 0xA0),
+            (104, 0),
+        ],
+    );
+    maker.send(&[op::READ, 0, 1, 104]);
+
+    maker.send(&[op::MARK, 8]);
+    maker.send(&[op::PATCH, 100, 0x1234]);
+    maker.erase(1, 100, 0x30);
+    maker.send(&[op::CUT, 0, 1, 0x00FF]);
+    maker.send(&[op::CELL, 100]);
+    maker.program(1, 5_000, 0x1234);
+    maker.send(&[op::CUT, 0, 1, 0x00FF]);
+    maker.send(&[op::CELL, 5_000]);
+
+    maker.send(&[op::MARK, 9]);
+    maker.even_chip(3, 0xFF);
+    maker.third(1, 0x90);
+    maker.send(&[op::READ, 0, 1, 0]);
+    maker.send(&[op::READ, 0, 1, 1]);
+
+    maker.send(&[op::MARK, 7]);
+    maker.even_chip(0, 0xFFFF);
+    maker.program(0, 4_095, 0);
+    maker.program(0, 4_096, 0);
+
+    maker.send(&[op::MARK, 10]);
+    maker.even_chip(0, 0xFFFF);
+    maker.send(&[op::IMAGE, 2_048, 0xFFFF, 0, 0xFFFF]);
+    maker.send(&[op::IMAGE_PATCH, 5, 0x1234]);
+    maker.send(&[op::LOAD, 0, 1, 10]);
+    maker.send(&[op::HASH, 0, 8_192]);
+
+    maker.send(&[op::MARK, 11]);
+    maker.send(&[op::IMAGE_PATCH, 5, 0x1235]);
+    maker.send(&[op::LOAD, 0, 1, 10]);
+    maker.send(&[op::HASH, 0, 8_192]);
+}
+
+/// The cases of part 9.
+pub fn make_large(maker: &mut Maker, _: u64) {
+    maker.send(&[op::MARK, 1]);
+    maker.case_1(9);
+
+    maker.send(&[op::MARK, 6]);
+    maker.writes(1, &[(0x5555, 0xAA), (0x2AAA, 0x55), (0x5555, 0x90)]);
+    maker.send(&[op::READ, 0, 1, 0]);
+    maker.send(&[op::READ, 0, 1, 1]);
+}

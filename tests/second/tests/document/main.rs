@@ -1,0 +1,10 @@
+//! What document 01 says, as tests of this program.
+
+mod chip;
+mod cycles;
+mod drivers;
+mod files;
+mod jobs;
+mod marked;
+mod parts;
+mod recorded;
