@@ -3,3 +3,4 @@ pub mod Operation
 pub mod Sequence
 pub mod Cycle
 pub mod Sized
+pub mod Trace
