@@ -1,0 +1,102 @@
+-- What a command, and a driver's start, that is not refused says of what was asked.
+use Prim.Native.Nat.{ℕ, suc, _≤_, _<_}
+use mathlib.Core.Path.{_≡_, refl}
+use mathlib.Core.Bool.{Bool, true, false}
+use native.Mathlib.Omega.{arith}
+use borrow.Author.Tests.{ltb-true, ltb-false, lt-ltb, le-ltb, eqb-true, eqb-false, eq-eqb, ne-eqb}
+use lib.Dec.{eqb, ltb}
+use Rattle.parts.specs.Pick.{pick}
+use Rattle.parts.specs.Width.{fitsIn}
+use Rattle.parts.specs.Table.{rowOf, partRefusal}
+use Rattle.parts.specs.Time.{hasCommand}
+use Rattle.parts.specs.declared.table.Row.{Row}
+use Rattle.parts.proofs.Every.{apart, unless, split}
+use Rattle.driver.specs.Refusals.{dataRefusal, targetRefusal, commandRefusal, startRefusal}
+
+-- a choice that is 0 where one branch is not
+zero-left : (b : Bool) (x k : ℕ) → pick b x (suc k) ≡ 0 → (b ≡ true) × (x ≡ 0)
+zero-left true x k e = (refl, e)
+zero-left false x k e = absurd (omega arith)
+
+zero-right : (b : Bool) (k x : ℕ) → pick b (suc k) x ≡ 0 → (b ≡ false) × (x ≡ 0)
+zero-right true k x e = absurd (omega arith)
+zero-right false k x e = (refl, e)
+
+-- a refusal in front
+none-first : (x y : ℕ) → pick (ltb 0 x) x y ≡ 0 → (x ≡ 0) × (y ≡ 0)
+none-first x y = split (λ (n : ℕ). n ≡ 0 → (x ≡ 0) × (y ≡ 0)) (ltb 0 x) x y (λ l e. absurd (no (ltb-true 0 x l) e)) (λ l e. (zero (ltb-false 0 x l), e))
+  where
+    no : 0 < x → x ≡ 0 → ⊥
+    no h e = omega arith
+
+    zero : x ≤ 0 → x ≡ 0
+    zero h = omega arith
+
+-- ---- what is asked of a row
+pub record Target (r : Row) (command a x : ℕ) : Type 0 where
+  pub has : hasCommand r command ≡ true
+  pub there : (command ≡ 3 → ⊥) → a < r .cells
+  pub fits : command ≡ 0 → fitsIn (r .width) x ≡ true
+
+pub target : (r : Row) (command a x : ℕ) → targetRefusal r command a x ≡ 0 → Target r command a x
+unfolding targetRefusal dataRefusal
+target r command a x e = record { has = cut .0; there = λ n. ltb-true a (r .cells) (rest n .0); fits = λ z. zero-left (fitsIn (r .width) x) 0 3 (word z) .0 }
+  where
+    cut : (hasCommand r command ≡ true) × (_≡_ {A = ℕ} (pick (eqb command 3) 0 (pick (ltb a (r .cells)) (dataRefusal r command x) 3)) 0)
+    cut = zero-left _ _ 13 e
+
+    rest : (command ≡ 3 → ⊥) → (ltb a (r .cells) ≡ true) × (dataRefusal r command x ≡ 0)
+    rest n = zero-left _ _ 2 (rw (ne-eqb command 3 n) at (cut .1))
+
+    word : command ≡ 0 → _≡_ {A = ℕ} (pick (fitsIn (r .width) x) 0 4) 0
+    word z = rw (eq-eqb command 0 z) at (rest (λ t. omega arith) .1)
+
+pub targets : (r : Row) (command a x : ℕ) → Target r command a x → targetRefusal r command a x ≡ 0
+unfolding targetRefusal dataRefusal
+targets r command a x w =
+    rw (w .has)
+    (split Zero (eqb command 3) 0 _ (λ _. refl)
+    (λ n. rw (lt-ltb a (r .cells) (w .there (eqb-false command 3 n)))
+    (split Zero (eqb command 0) _ 0 (λ z. rw (w .fits (eqb-true command 0 z))) (λ _. refl))))
+  where
+    Zero : ℕ → Type 0
+    Zero n = n ≡ 0
+
+-- ---- of a command's writes
+pub record Asked (part command a x : ℕ) : Type 0 where
+  pub known : partRefusal part ≡ 0
+  pub target : Target (rowOf part) command a x
+
+pub asked : (part command a x : ℕ) → commandRefusal part command a x ≡ 0 → Asked part command a x
+unfolding commandRefusal
+asked part command a x e = let f = none-first _ _ e in record { known = f .0; target = target (rowOf part) command a x (f .1) }
+
+pub asking : (part command a x : ℕ) → Asked part command a x → commandRefusal part command a x ≡ 0
+unfolding commandRefusal
+asking part command a x w = rw (w .known) (targets (rowOf part) command a x (w .target))
+
+-- ---- of a start
+pub record Begun (part command a x p : ℕ) : Type 0 where
+  pub asked : Asked part command a x
+  pub some : 0 < p
+  pub most : p ≤ 1000
+
+pub begun : (part command a x p : ℕ) → startRefusal part command a x p ≡ 0 → Begun part command a x p
+unfolding startRefusal
+begun part command a x p e =
+    let f = none-first _ _ e in
+    let g = zero-right _ 9 _ (f .1) in
+    let h = zero-right _ 9 _ (g .1) in
+    record {
+      asked = record { known = f .0; target = target (rowOf part) command a x (h .1) };
+      some = above (eqb-false p 0 (g .0));
+      most = ltb-false 1000 p (h .0);
+    }
+  where
+    above : (p ≡ 0 → ⊥) → 0 < p
+    above n = omega arith
+
+pub beginning : (part command a x p : ℕ) → Begun part command a x p → startRefusal part command a x p ≡ 0
+unfolding startRefusal
+beginning part command a x p w =
+    rw (w .asked .known, ne-eqb p 0 (λ z. omega (arith, w .some)), le-ltb 1000 p (w .most)) (targets (rowOf part) command a x (w .asked .target))

@@ -1,0 +1,4 @@
+pub mod Asked
+pub mod Places
+pub mod Ready
+pub mod Determined

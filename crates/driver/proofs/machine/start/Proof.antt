@@ -1,0 +1,44 @@
+-- `driver::machine::start` meets its contract.
+use mathlib.Core.Path.{_≡_, sym}
+use native.Mathlib.Omega.{arith}
+use borrow.Author.Needs.{needs}
+use borrow.Author.Tests.{eq-eqb, ne-eqb}
+use Rattle.driver.specs.Machine.{startOf}
+use Rattle.driver.proofs.machine.start.Statement.{statement}
+use Rattle.driver.proofs.machine.start.Tie as tie
+
+start-refusal-requires : tie.Need-start-refusal-requires
+start-refusal-requires c κs = search needs
+
+begin-requires : tie.Need-begin-requires
+begin-requires c κs = search needs
+
+returns : tie.Need-returns
+unfolding startOf
+returns c = simp (sym (c .before .before .start-refusal .ensures), ne-eqb (c .before .before .start-refusal .result) 0 (λ z. omega arith), c .begin .ensures)
+
+kept-address-requires : tie.Need-kept-address-requires
+kept-address-requires c κs = search needs
+
+kept-data-requires : tie.Need-kept-data-requires
+kept-data-requires c κs = search needs
+
+begin-requires-2 : tie.Need-begin-requires-2
+begin-requires-2 c κs = search needs
+
+returns-2 : tie.Need-returns-2
+unfolding startOf
+returns-2 c = let z : c .before .before .before .before .start-refusal .result ≡ 0 = omega arith in
+    simp (sym (c .before .before .before .before .start-refusal .ensures), eq-eqb _ _ z, c .begin2 .ensures, c .before .before .kept-address .ensures, c .before .kept-data .ensures)
+
+pub start-spec : {M : Type 1} → statement M
+start-spec =
+    tie.close
+    (tie.spec
+    start-refusal-requires
+    begin-requires
+    returns
+    kept-address-requires
+    kept-data-requires
+    begin-requires-2
+    returns-2)

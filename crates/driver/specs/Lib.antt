@@ -1,0 +1,5 @@
+pub mod Refusals
+pub mod Writes
+pub mod Machine
+pub mod Usual
+pub mod Talk

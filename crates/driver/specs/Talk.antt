@@ -1,0 +1,81 @@
+-- A driver against the model of the chip, and against any replies.
+use Prim.Native.Nat.{ℕ, zero, suc, _+_}
+use mathlib.Core.Bool.{Bool}
+use mathlib.Core.List.{List, [], _∷_, map}
+use lib.Dec.{ltb}
+use Rattle.parts.specs.Pick.{pick}
+use Rattle.chip.specs.declared.cycle.Action.{Action}
+use Rattle.chip.specs.declared.cycle.Action.the-variants.{Read, Write, Idle, Cut}
+use Rattle.chip.specs.declared.cycle.Cycle.{Cycle}
+use Rattle.chip.specs.Cycle.{Chip, cycleOf}
+use Rattle.chip.specs.Trace.{after}
+use Rattle.driver.specs.declared.writes.Write.{Write as Written}
+use Rattle.driver.specs.declared.machine.Next.the-variants.{Nothing, Send}
+use Rattle.driver.specs.declared.machine.Step.{Step}
+use Rattle.driver.specs.Machine.{stepOf}
+
+abbrev pub cycle : ℕ → Bool → Action → Cycle
+cycle e wp a = record { elapsed = e; wp = wp; action = a }
+
+-- writes, as cycles at 0 µs
+abbrev pub writeCycle : Bool → Written → Cycle
+writeCycle wp w = cycle 0 wp (Write (w .address) (w .«data»))
+
+abbrev pub writeCycles : Bool → List Written → List Cycle
+writeCycles wp ws = map (writeCycle wp) ws
+
+-- ---- against the model
+-- the cycles sent, the chip that they left, and the step that stands: where it names nothing, the end
+pub record Told : Type 0 where
+  pub cycles : List Cycle
+  pub chip : Chip
+  pub last : Step
+
+abbrev pub told : List Cycle → Chip → Step → Told
+told cs h s = record { cycles = cs; chip = h; last = s }
+
+-- a cycle in front
+abbrev pub led : Cycle → Told → Told
+led c t = told (c ∷ t .cycles) (t .chip) (t .last)
+
+-- the value that a cycle shows
+abbrev pub shows : ℕ → Chip → Cycle → ℕ
+shows part h c = cycleOf part (h .cells) (h .device) c .reply .value
+
+-- from a driver's step on, each cycle that it names is sent to the chip, and what the chip shows is given to its next step: at most n cycles
+unfoldable pub talk : ℕ → Bool → ℕ → Step → Chip → Told
+talk part wp zero s h = told [] h s
+talk part wp (suc n) s h =
+    elim (s .next) [
+      | Nothing ↦ told [] h s
+      | Send e a ↦ led (cycle e wp a) (talk part wp n (stepOf (s .driver) (shows part h (cycle e wp a))) (after part h (cycle e wp a)))
+    ]
+
+-- ---- against any replies
+pub record Heard : Type 0 where
+  pub cycles : List Cycle
+  pub last : Step
+
+abbrev pub heardOf : List Cycle → Step → Heard
+heardOf cs s = record { cycles = cs; last = s }
+
+-- the same where f says what is replied, f 0 to the first cycle
+unfoldable pub heard : Bool → (ℕ → ℕ) → ℕ → Step → Heard
+heard wp f zero s = heardOf [] s
+heard wp f (suc n) s =
+    elim (s .next) [
+      | Nothing ↦ heardOf [] s
+      | Send e a ↦ heardOf (cycle e wp a ∷ heard wp (λ i. f (suc i)) n (stepOf (s .driver) (f 0)) .cycles) (heard wp (λ i. f (suc i)) n (stepOf (s .driver) (f 0)) .last)
+    ]
+
+-- a poll is a read after some time; the confirming read, at 0 µs, is none
+abbrev pub isPoll : Action → ℕ → ℕ
+isPoll (Read a) e = pick (ltb 0 e) 1 0
+isPoll (Write a x) e = 0
+isPoll Idle e = 0
+isPoll (Cut x) e = 0
+
+-- how many of the cycles are polls
+abbrev pub pollsIn : List Cycle → ℕ
+pollsIn [] = 0
+pollsIn (c ∷ cs) = isPoll (c .action) (c .elapsed) + pollsIn cs

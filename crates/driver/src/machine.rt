@@ -1,0 +1,340 @@
+// The driver: a machine that hands its state back from each step.
+use crate::refusals::start_refusal;
+use crate::writes::nth_write;
+use crate::writes::write_count;
+use chip::Action;
+use parts::Row;
+ghost use mathlib.Core.Path.{_≡_};
+ghost use Prim.Native.Nat.{_<_, _≤_};
+ghost use Rattle.driver.specs.Machine.{afterWrite, bitSeven, bitWanted, confirmingOf, confirms, countFits, driver, inRange, keptAddress, keptData, matches, mostPolls, moved, polledAt, pollingOf, polls, someUpTo, startOf, step, stepOf, valueWanted, writingOf};
+ghost use Rattle.driver.specs.Usual.{Usual};
+ghost use Rattle.driver.specs.Writes.{writeCount};
+
+// The writes are named one by one; then polls; then the confirming read; then one of three ends.
+pub enum Phase {
+    Writing,
+    Polling,
+    Confirming,
+    Done,
+    GaveUp,
+    Differs,
+}
+
+// What is asked, and how far it is: the writes named so far, and from the polling on the polls.
+pub struct Driver {
+    pub part: u32,
+    pub command: u32,
+    pub address: u32,
+    pub data: u16,
+    pub p: u32,
+    pub phase: Phase,
+    pub count: u32,
+}
+
+// A start: 0 or the refusal, and the driver.
+pub struct Started {
+    pub answer: u32,
+    pub driver: Driver,
+}
+
+// What a step names: nothing, or the µs since the last cycle and what the next one does. The
+// caller sets WP#.
+pub enum Next {
+    Nothing,
+    Send(u32, Action),
+}
+
+// A step's answer: 0 with a cycle; 0, 11 or 12 at the end; or the refusal 5. Then the driver
+// handed back, the cycle, and the polls named so far.
+pub struct Step {
+    pub answer: u32,
+    pub driver: Driver,
+    pub next: Next,
+    pub polls: u32,
+}
+
+// The address that a start keeps: 0 for chip.
+fn kept_address(command: u32, address: u32) -> u32
+    ensures { λ r. ⌜ r ≡ keptAddress command address ⌝ }
+{
+    if command == 3 {
+        return 0;
+    }
+    address
+}
+
+// The data that a start keeps: 0 for an erase.
+fn kept_data(command: u32, data: u16) -> u16
+    ensures { λ r. ⌜ r ≡ keptData command «data» ⌝ }
+{
+    if command == 0 {
+        return data;
+    }
+    0
+}
+
+// A driver that has named nothing yet.
+fn begin(part: u32, command: u32, address: u32, data: u16, p: u32) -> Driver
+    ensures { λ r. ⌜ r ≡ driver part command address «data» p Phase.Writing 0 ⌝ }
+{
+    Driver {
+        part,
+        command,
+        address,
+        data,
+        p,
+        phase: Phase::Writing,
+        count: 0,
+    }
+}
+
+// Starts a command, 0 program, 1 sector, 2 block, 3 chip, polled every p µs: refusals 1, 10, 14, 3, 4.
+pub fn start(part: u32, command: u32, address: u32, data: u16, p: u32) -> Started
+    ensures { λ r. ⌜ r ≡ startOf part command address «data» p ⌝ }
+{
+    let answer = start_refusal(part, command, address, data, p);
+    if 0 < answer {
+        return Started {
+            answer,
+            driver: begin(0, 0, 0, 0, 0),
+        };
+    }
+    let a = kept_address(command, address);
+    let x = kept_data(command, data);
+    Started {
+        answer: 0,
+        driver: begin(part, command, a, x, p),
+    }
+}
+
+// After how many polls it gives up.
+fn most_polls(row: Row, command: u32, p: u32) -> u32
+    requires { ⌜ Usual row ⌝ }
+    ensures { λ r. ⌜ r ≡ mostPolls row command p ⌝ }
+{
+    parts::rounded_up(row.time(command), p) * 2
+}
+
+// Whether n is 1 to m.
+fn some_up_to(m: u32, n: u32) -> bool
+    ensures { λ r. ⌜ r ≡ someUpTo m n ⌝ }
+{
+    if 0 < n {
+        return n <= m;
+    }
+    false
+}
+
+// Whether n writes or polls fit a phase, of w writes and at most m polls.
+fn count_fits(phase: Phase, w: u32, m: u32, n: u32) -> bool
+    ensures { λ r. ⌜ r ≡ countFits phase w m n ⌝ }
+{
+    match phase {
+        Phase::Writing => n < w,
+        Phase::Polling => n <= m,
+        Phase::Confirming => some_up_to(m, n),
+        Phase::Done => some_up_to(m, n),
+        Phase::GaveUp => n == m,
+        Phase::Differs => some_up_to(m, n),
+    }
+}
+
+// Bit 7.
+fn bit_seven(x: u16) -> u16
+    ensures { λ r. ⌜ r ≡ bitSeven x ⌝ }
+{
+    x / 128 % 2
+}
+
+impl Driver {
+    // Whether the state is in range.
+    fn in_range(self) -> bool
+        ensures { λ r. ⌜ r ≡ inRange self ⌝ }
+    {
+        let command = self.command;
+        let answer = start_refusal(self.part, command, self.address, self.data, self.p);
+        if 0 < answer {
+            return false;
+        }
+        let found = parts::part_row(self.part);
+        let row = found.row;
+        let m = most_polls(row, command, self.p);
+        let phase = self.phase;
+        count_fits(phase, write_count(command), m, self.count)
+    }
+
+    // The same driver in a phase, with a count.
+    fn moved_to(self, phase: Phase, count: u32) -> Driver
+        ensures { λ r. ⌜ r ≡ moved self phase count ⌝ }
+    {
+        Driver {
+            part: self.part,
+            command: self.command,
+            address: self.address,
+            data: self.data,
+            p: self.p,
+            phase,
+            count,
+        }
+    }
+
+    // The end in a phase, with its number.
+    fn end(self, phase: Phase, number: u32) -> Step
+        ensures { λ r. ⌜ r ≡ step number (moved self phase (self .count)) Next.Nothing (self .count) ⌝ }
+    {
+        Step {
+            answer: number,
+            driver: self.moved_to(phase, self.count),
+            next: Next::Nothing,
+            polls: self.count,
+        }
+    }
+
+    // The address that is polled and confirmed.
+    fn polled_at(self) -> u32
+        ensures { λ r. ⌜ r ≡ polledAt self ⌝ }
+    {
+        if self.command == 3 {
+            return 0;
+        }
+        self.address
+    }
+
+    // The bit 7 that ends the polling.
+    fn bit_wanted(self) -> u16
+        ensures { λ r. ⌜ r ≡ bitWanted self ⌝ }
+    {
+        if self.command == 0 {
+            return bit_seven(self.data);
+        }
+        1
+    }
+
+    // What the confirming read must equal, as a word.
+    fn value_wanted(self, row: Row) -> u16
+        requires { ⌜ row .width ≤ 16 ⌝ }
+        ensures { λ r. ⌜ r ≡ valueWanted row self ⌝ }
+    {
+        if self.command == 0 {
+            return self.data;
+        }
+        parts::blank(row.width)
+    }
+
+    // The driver once it has named a write.
+    fn after_write(self) -> Driver
+        requires { ⌜ self .count < writeCount (self .command) ⌝ }
+        ensures { λ r. ⌜ r ≡ afterWrite self ⌝ }
+    {
+        let n = self.count + 1;
+        if n < write_count(self.command) {
+            return self.moved_to(Phase::Writing, n);
+        }
+        self.moved_to(Phase::Polling, 0)
+    }
+
+    // Names the next write.
+    fn write_on(self, row: Row) -> Step
+        requires { ⌜ Usual row ⌝ }
+        requires { ⌜ self .count < writeCount (self .command) ⌝ }
+        ensures { λ r. ⌜ r ≡ writingOf row self ⌝ }
+    {
+        let w = nth_write(row, self.command, self.address, self.data, self.count);
+        let action = Action::Write(w.address, w.data);
+        Step {
+            answer: 0,
+            driver: self.after_write(),
+            next: Next::Send(0, action),
+            polls: 0,
+        }
+    }
+
+    // Names one more poll.
+    fn poll(self) -> Step
+        requires { ⌜ self .count < 280000 ⌝ }
+        ensures { λ r. ⌜ r ≡ polls self ⌝ }
+    {
+        let n = self.count + 1;
+        let action = Action::Read(self.polled_at());
+        Step {
+            answer: 0,
+            driver: self.moved_to(Phase::Polling, n),
+            next: Next::Send(self.p, action),
+            polls: n,
+        }
+    }
+
+    // Names the confirming read.
+    fn confirm(self) -> Step
+        ensures { λ r. ⌜ r ≡ confirms self ⌝ }
+    {
+        let n = self.count;
+        let action = Action::Read(self.polled_at());
+        Step {
+            answer: 0,
+            driver: self.moved_to(Phase::Confirming, n),
+            next: Next::Send(0, action),
+            polls: n,
+        }
+    }
+
+    // Whether the reply to a poll shows the wanted bit 7.
+    fn is_match(self, read: u16) -> bool
+        ensures { λ r. ⌜ r ≡ matches self read ⌝ }
+    {
+        if 0 < self.count {
+            return bit_seven(read) == self.bit_wanted();
+        }
+        false
+    }
+
+    // Polls on, confirms or gives up.
+    fn poll_on(self, row: Row, read: u16) -> Step
+        requires { ⌜ Usual row ⌝ }
+        ensures { λ r. ⌜ r ≡ pollingOf row self read ⌝ }
+    {
+        if self.is_match(read) {
+            return self.confirm();
+        }
+        if self.count < most_polls(row, self.command, self.p) {
+            return self.poll();
+        }
+        self.end(Phase::GaveUp, 11)
+    }
+
+    // Compares the confirming read.
+    fn compare(self, row: Row, read: u16) -> Step
+        requires { ⌜ row .width ≤ 16 ⌝ }
+        ensures { λ r. ⌜ r ≡ confirmingOf row self read ⌝ }
+    {
+        if parts::value(row.width, read) == self.value_wanted(row) {
+            return self.end(Phase::Done, 0);
+        }
+        self.end(Phase::Differs, 12)
+    }
+
+    // Given the value last read, names the next cycle or the end: 5 for a state out of range.
+    pub fn step(self, read: u16) -> Step
+        ensures { λ r. ⌜ r ≡ stepOf self read ⌝ }
+    {
+        if !self.in_range() {
+            return Step {
+                answer: 5,
+                driver: self,
+                next: Next::Nothing,
+                polls: 0,
+            };
+        }
+        let found = parts::part_row(self.part);
+        let row = found.row;
+        let phase = self.phase;
+        match phase {
+            Phase::Writing => self.write_on(row),
+            Phase::Polling => self.poll_on(row, read),
+            Phase::Confirming => self.compare(row, read),
+            Phase::Done => self.end(Phase::Done, 0),
+            Phase::GaveUp => self.end(Phase::GaveUp, 11),
+            Phase::Differs => self.end(Phase::Differs, 12),
+        }
+    }
+}

@@ -1,0 +1,65 @@
+// The refusals of a command and of a driver's start, in document 01's order.
+use parts::Row;
+ghost use mathlib.Core.Path.{_≡_};
+ghost use Rattle.driver.specs.Refusals.{commandRefusal, dataRefusal, startRefusal, targetRefusal};
+
+// 4 for data to program that does not fit.
+fn data_refusal(row: Row, command: u32, data: u16) -> u32
+    ensures { λ r. ⌜ r ≡ dataRefusal row command «data» ⌝ }
+{
+    if command == 0 {
+        if parts::fits(row.width, data) {
+            return 0;
+        }
+        return 4;
+    }
+    0
+}
+
+// 14, then 3 but for a chip erase, then 4.
+fn target_refusal(row: Row, command: u32, address: u32, data: u16) -> u32
+    ensures { λ r. ⌜ r ≡ targetRefusal row command address «data» ⌝ }
+{
+    if !row.has_command(command) {
+        return 14;
+    }
+    if command == 3 {
+        return 0;
+    }
+    if row.cells <= address {
+        return 3;
+    }
+    data_refusal(row, command, data)
+}
+
+// The refusal of a command's writes: 1, 14, 3, 4.
+pub(crate) fn command_refusal(part: u32, command: u32, address: u32, data: u16) -> u32
+    ensures { λ r. ⌜ r ≡ commandRefusal part command address «data» ⌝ }
+{
+    let found = parts::part_row(part);
+    let answer = found.answer;
+    if 0 < answer {
+        return answer;
+    }
+    let row = found.row;
+    target_refusal(row, command, address, data)
+}
+
+// The refusal of a driver's start: 1, 10, 14, 3, 4.
+pub(crate) fn start_refusal(part: u32, command: u32, address: u32, data: u16, p: u32) -> u32
+    ensures { λ r. ⌜ r ≡ startRefusal part command address «data» p ⌝ }
+{
+    let found = parts::part_row(part);
+    let answer = found.answer;
+    if 0 < answer {
+        return answer;
+    }
+    if p == 0 {
+        return 10;
+    }
+    if 1000 < p {
+        return 10;
+    }
+    let row = found.row;
+    target_refusal(row, command, address, data)
+}

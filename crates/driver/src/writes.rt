@@ -1,0 +1,168 @@
+// The writes of a command: plain values of U1, U2 and the codes.
+use crate::refusals::command_refusal;
+use parts::Row;
+ghost use mathlib.Core.Path.{_≡_};
+ghost use Prim.Native.Nat.{_<_};
+ghost use Rattle.driver.specs.Usual.{Usual};
+ghost use Rattle.driver.specs.Writes.{commandWrites, kth, kthWrite, lastWrite, nthWrite, writeCount, writes, writesOf};
+
+pub struct Write {
+    pub address: u32,
+    pub data: u16,
+}
+
+// One command's writes: 0 or the refusal, how many they are, and the writes, unused places zero.
+pub struct Writes {
+    pub answer: u32,
+    pub count: u32,
+    pub writes: [Write; 6],
+}
+
+// One write: 0 or the refusal, its address and its data.
+pub struct Kth {
+    pub answer: u32,
+    pub address: u32,
+    pub data: u16,
+}
+
+// How many writes a command has.
+pub(crate) fn write_count(command: u32) -> u32
+    ensures { λ r. ⌜ r ≡ writeCount command ⌝ }
+{
+    if command == 0 {
+        return 4;
+    }
+    6
+}
+
+// The write that starts the operation.
+fn last_write(row: Row, command: u32, address: u32, data: u16) -> Write
+    requires { ⌜ Usual row ⌝ }
+    ensures { λ r. ⌜ r ≡ lastWrite row command address «data» ⌝ }
+{
+    if command == 0 {
+        return Write { address, data };
+    }
+    if command == 1 {
+        let code = row.sector_code as u16;
+        return Write {
+            address,
+            data: code,
+        };
+    }
+    if command == 2 {
+        let code = row.block_code as u16;
+        return Write {
+            address,
+            data: code,
+        };
+    }
+    Write {
+        address: row.u1,
+        data: 0x10,
+    }
+}
+
+// The writes of a command in six places.
+fn writes_of(row: Row, command: u32, address: u32, data: u16) -> Writes
+    requires { ⌜ Usual row ⌝ }
+    ensures { λ r. ⌜ r ≡ writes 0 (writeCount command) (writesOf row command address «data») ⌝ }
+{
+    let none = Write {
+        address: 0,
+        data: 0,
+    };
+    let one = Write {
+        address: row.u1,
+        data: 0xaa,
+    };
+    let two = Write {
+        address: row.u2,
+        data: 0x55,
+    };
+    let last = last_write(row, command, address, data);
+    if command == 0 {
+        let arm = Write {
+            address: row.u1,
+            data: 0xa0,
+        };
+        return Writes {
+            answer: 0,
+            count: 4,
+            writes: [one, two, arm, last, none, none],
+        };
+    }
+    let on = Write {
+        address: row.u1,
+        data: 0x80,
+    };
+    Writes {
+        answer: 0,
+        count: 6,
+        writes: [one, two, on, one, two, last],
+    }
+}
+
+// The k-th of a command's writes.
+pub(crate) fn nth_write(row: Row, command: u32, address: u32, data: u16, k: u32) -> Write
+    requires { ⌜ Usual row ⌝ }
+    requires { ⌜ k < writeCount command ⌝ }
+    ensures { λ r. ⌜ r ≡ nthWrite row command address «data» k ⌝ }
+{
+    let all = writes_of(row, command, address, data);
+    let list = all.writes;
+    list[k as usize]
+}
+
+// One command's writes together, 0 program, 1 sector, 2 block, 3 chip: refusals 1, 14, 3, 4.
+pub fn command_writes(part: u32, command: u32, address: u32, data: u16) -> Writes
+    ensures { λ r. ⌜ r ≡ commandWrites part command address «data» ⌝ }
+{
+    let answer = command_refusal(part, command, address, data);
+    if 0 < answer {
+        let none = Write {
+            address: 0,
+            data: 0,
+        };
+        return Writes {
+            answer,
+            count: 0,
+            writes: [none; 6],
+        };
+    }
+    let found = parts::part_row(part);
+    let row = found.row;
+    writes_of(row, command, address, data)
+}
+
+// A refused write.
+fn refused(answer: u32) -> Kth
+    ensures { λ r. ⌜ r ≡ record { answer = answer; address = 0; «data» = 0 } ⌝ }
+{
+    Kth {
+        answer,
+        address: 0,
+        data: 0,
+    }
+}
+
+// The k-th write of a command, from 0: refusals 1, 14, 3, 4, 15.
+pub fn kth_write(part: u32, command: u32, address: u32, data: u16, k: u32) -> Kth
+    ensures { λ r. ⌜ r ≡ kthWrite part command address «data» k ⌝ }
+{
+    let answer = command_refusal(part, command, address, data);
+    if 0 < answer {
+        return refused(answer);
+    }
+    if write_count(command) <= k {
+        return refused(15);
+    }
+    let found = parts::part_row(part);
+    let row = found.row;
+    let w = nth_write(row, command, address, data, k);
+    Kth {
+        answer: 0,
+        address: w.address,
+        data: w.data,
+    }
+}
