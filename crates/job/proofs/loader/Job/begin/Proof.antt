@@ -1,0 +1,60 @@
+use borrow.Author.Needs.{needs}
+use native.Mathlib.Omega.{arith}
+use mathlib.Core.Path.{_≡_, refl, ap, sym, _∙_}
+use mathlib.Core.Bool.{true, false}
+use Prim.Native.Nat.{ℕ, _+_, _-_, _≤_, _<_, _%_}
+use lib.ListN.{length, getD, take, drop}
+use borrow.Author.Tests.{eq-eqb, ne-eqb, lt-ltb, le-ltb, le-leb, lt-leb, not-true, not-false, leb-true, ltb-true}
+use Rattle.driver.specs.declared.machine.Driver.{Driver}
+use Rattle.job.specs.Loader.{firstStep}
+use Rattle.driver.specs.Machine.{stepOf}
+use Rattle.parts.proofs.Rules.{tests}
+use mathlib.Core.Bool.{Bool, true, false}
+use borrow.Author.Tests.{eq-eqb, ne-eqb, lt-ltb, le-ltb, le-leb, lt-leb, not-true, not-false}
+use Rattle.job.specs.Loader.{beginOf}
+use Rattle.driver.specs.declared.machine.Started.{Started}
+use Rattle.job.proofs.loader.Job.begin.Statement.{statement}
+use Rattle.job.proofs.loader.Job.begin.Tie as tie
+use Rattle.job.proofs.loader.Job.begin.Reads as reads
+use Rattle.job.proofs.loader.Job.begin.Lts as lts
+use Rattle.driver.proofs.machine.Driver.step.Reads as step-reads
+use Rattle.driver.proofs.start.Reads as start-reads
+use Rattle.job.proofs.loader.Job.first_step.Reads as first-step-reads
+
+add-start : tie.Need-add-start
+add-start c = search needs
+
+add-start-2 : tie.Need-add-start-2
+add-start-2 c = search needs
+
+start-requires : tie.Need-start-requires
+start-requires c κs = search needs
+
+step-requires : tie.Need-step-requires
+step-requires c κs = search needs
+
+first-step-requires : tie.Need-first-step-requires
+first-step-requires c κs = search needs
+
+returns : tie.Need-returns
+unfolding beginOf
+returns c = let g = c .before .before .before .before .before .before .before .args in
+    let a = ap (λ (s : Started). s .answer) (c .before .before .before .before .before .start .ensures) in
+    let d = ap (λ (s : Started). s .driver) (c .before .before .before .before .before .start .ensures) in
+    simp (sym a, eq-eqb _ _ (c .before .before .before .if1 .taken)) (c .first-step .ensures ∙ ap (firstStep (g .self) (g .stage) (g .base) (g .at)) (c .before .step .ensures ∙ ap (λ (x : Driver). stepOf x 0) d))
+
+returns-2 : tie.Need-returns-2
+unfolding beginOf
+returns-2 c = let a = ap (λ (s : Started). s .answer) (c .before .before .start .ensures) in simp (sym a, ne-eqb _ _ (c .if1 .left))
+
+pub begin-spec : {M : Type 1} → statement M
+begin-spec =
+    tie.close
+    (tie.spec
+    add-start
+    add-start-2
+    start-requires
+    step-requires
+    first-step-requires
+    returns
+    returns-2)

@@ -1,0 +1,32 @@
+use Rattle.parts.proofs.Rules.{tests}
+use borrow.Author.Needs.{needs}
+use native.Mathlib.Omega.{arith}
+use mathlib.Core.Path.{_≡_, refl, ap, sym, _∙_}
+use Prim.Native.Nat.{ℕ, _+_, _-_, _≤_, _<_, _%_}
+use mathlib.Core.Bool.{Bool, true, false}
+use lib.ListN.{length, getD, take, drop}
+use borrow.Author.Tests.{eq-eqb, ne-eqb, lt-ltb, le-ltb, le-leb, lt-leb, not-true, not-false}
+use Rattle.job.specs.Loader.{firstStep}
+use Rattle.job.proofs.loader.Job.first_step.Statement.{statement}
+use Rattle.job.proofs.loader.Job.first_step.Tie as tie
+use Rattle.job.proofs.loader.Job.first_step.Reads as reads
+use Rattle.job.proofs.loader.Job.first_step.Lts as lts
+use Rattle.job.proofs.loader.Job.goes_on.Reads as goes-on-reads
+
+enum-told : tie.Need-enum-told
+enum-told c = search needs
+
+enum-known-next : tie.Need-enum-known-next
+enum-known-next c = search needs
+
+goes-on-requires : tie.Need-goes-on-requires
+goes-on-requires c κs = search needs
+
+returns : tie.Need-returns
+returns c = simp (c .enum-told .given .1)
+
+returns-2 : tie.Need-returns-2
+returns-2 c = simp (c .before .before .next .given .1) (c .goes-on .ensures)
+
+pub first-step-spec : {M : Type 1} → statement M
+first-step-spec = tie.close (tie.spec enum-told enum-known-next goes-on-requires returns returns-2)

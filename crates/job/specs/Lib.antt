@@ -1,0 +1,5 @@
+pub mod Search
+pub mod Total
+pub mod Refusal
+pub mod Loader
+pub mod Kept
