@@ -3,3 +3,4 @@ pub mod Total
 pub mod Refusal
 pub mod Loader
 pub mod Kept
+pub mod Run

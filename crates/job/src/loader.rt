@@ -1,8 +1,8 @@
 // The loader: a machine by value over replies. It never sees the cells: what it decides, it decides from what was read.
-use chip::Action;
-use chip::Cycle;
 use crate::search::leading;
 use crate::search::must_rise;
+use chip::Action;
+use chip::Cycle;
 use driver::Driver;
 use driver::Next;
 use driver::Phase;
@@ -64,7 +64,15 @@ fn no_driver() -> Driver
     ensures { λ r. ⌜ r ≡ nobody ⌝ }
 {
     let phase = Phase::Writing;
-    Driver { part: 0, command: 0, address: 0, data: 0, p: 0, phase, count: 0 }
+    Driver {
+        part: 0,
+        command: 0,
+        address: 0,
+        data: 0,
+        p: 0,
+        phase,
+        count: 0,
+    }
 }
 
 impl Job {
@@ -74,9 +82,18 @@ impl Job {
         ensures { λ r. ⌜ r ≡ readsCell self stage base at ⌝ }
     {
         let action = Action::Read(self.first + (base + at));
-        let cycle = Cycle { elapsed: 0, wp: self.wp, action };
+        let cycle = Cycle {
+            elapsed: 0,
+            wp: self.wp,
+            action,
+        };
         let driver = no_driver();
-        let loader = Loader { stage, base, at, driver };
+        let loader = Loader {
+            stage,
+            base,
+            at,
+            driver,
+        };
         Turn::Play(loader, Purpose::Scan, cycle)
     }
 
@@ -129,12 +146,29 @@ impl Job {
     }
 
     // The cycle that a driver names.
-    fn goes_on(self, stage: Stage, base: u32, at: u32, driver: Driver, elapsed: u32, action: Action) -> Turn
+    fn goes_on(
+        self,
+        stage: Stage,
+        base: u32,
+        at: u32,
+        driver: Driver,
+        elapsed: u32,
+        action: Action,
+    ) -> Turn
         ensures { λ r. ⌜ r ≡ goesOn self stage base at driver elapsed action ⌝ }
     {
         let purpose = purpose_of(driver, action);
-        let cycle = Cycle { elapsed, wp: self.wp, action };
-        let loader = Loader { stage, base, at, driver };
+        let cycle = Cycle {
+            elapsed,
+            wp: self.wp,
+            action,
+        };
+        let loader = Loader {
+            stage,
+            base,
+            at,
+            driver,
+        };
         Turn::Play(loader, purpose, cycle)
     }
 

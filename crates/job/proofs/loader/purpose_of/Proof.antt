@@ -1,18 +1,7 @@
-use Rattle.parts.proofs.Rules.{tests}
+-- `job::loader::purpose_of` meets its contract.
 use borrow.Author.Needs.{needs}
-use native.Mathlib.Omega.{arith}
-use mathlib.Core.Path.{_≡_, refl, ap, sym, _∙_}
-use Prim.Native.Nat.{ℕ, _+_, _-_, _≤_, _<_, _%_}
-use mathlib.Core.Bool.{Bool, true, false}
-use lib.ListN.{length, getD, take, drop}
-use borrow.Author.Tests.{eq-eqb, ne-eqb, lt-ltb, le-ltb, le-leb, lt-leb, not-true, not-false}
 use Rattle.job.proofs.loader.purpose_of.Statement.{statement}
 use Rattle.job.proofs.loader.purpose_of.Tie as tie
-use Rattle.job.proofs.loader.purpose_of.Reads as reads
-use Rattle.job.proofs.loader.purpose_of.Lts as lts
-use Rattle.job.proofs.loader.is_polling.Reads as is-polling-reads
-use Rattle.job.proofs.loader.read_purpose.Reads as read-purpose-reads
-use Rattle.job.proofs.loader.write_purpose.Reads as write-purpose-reads
 
 is-polling-requires : tie.Need-is-polling-requires
 is-polling-requires c κs = search needs

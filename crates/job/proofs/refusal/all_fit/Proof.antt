@@ -1,18 +1,13 @@
-use Rattle.parts.proofs.Rules.{tests}
+-- `job::refusal::all_fit` meets its contract.
+use Prim.Native.Nat.{_-_, _≤_}
+use mathlib.Core.Path.{_≡_, sym, _∙_}
+use lib.ListN.{length, drop}
 use borrow.Author.Needs.{needs}
-use native.Mathlib.Omega.{arith}
-use mathlib.Core.Path.{_≡_, refl, ap, sym, _∙_}
-use Prim.Native.Nat.{ℕ, _+_, _-_, _≤_, _<_, _%_}
-use mathlib.Core.Bool.{Bool, true, false}
-use lib.ListN.{length, getD, take, drop}
-use borrow.Author.Tests.{eq-eqb, ne-eqb, lt-ltb, le-ltb, le-leb, lt-leb, not-true, not-false}
+use borrow.Author.Tests.{not-true, not-false}
 use Rattle.job.specs.Refusal.{fitAll}
 use Rattle.job.proofs.Turns.{fit-more, fit-ends, fit-none}
 use Rattle.job.proofs.refusal.all_fit.Statement.{statement}
 use Rattle.job.proofs.refusal.all_fit.Tie as tie
-use Rattle.job.proofs.refusal.all_fit.Reads as reads
-use Rattle.job.proofs.refusal.all_fit.Lts as lts
-use Rattle.parts.proofs.fits.Reads as fits-reads
 
 abbrev Inv-loop : tie.InvT-loop
 Inv-loop width image i₀ i = (i ≤ length image) × (fitAll width image ≡ fitAll width (drop i image))

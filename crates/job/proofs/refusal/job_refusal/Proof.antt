@@ -1,19 +1,11 @@
-use Rattle.parts.proofs.Rules.{tests}
+-- `job::refusal::job_refusal` meets its contract.
+use mathlib.Core.Path.{ap, sym}
 use borrow.Author.Needs.{needs}
-use native.Mathlib.Omega.{arith}
-use mathlib.Core.Path.{_≡_, refl, ap, sym, _∙_}
-use Prim.Native.Nat.{ℕ, _+_, _-_, _≤_, _<_, _%_}
-use mathlib.Core.Bool.{Bool, true, false}
-use lib.ListN.{length, getD, take, drop}
-use borrow.Author.Tests.{eq-eqb, ne-eqb, lt-ltb, le-ltb, le-leb, lt-leb, not-true, not-false}
-use Rattle.job.specs.Refusal.{jobRefusal, rangeRefusal}
+use borrow.Author.Tests.{eq-eqb, ne-eqb, lt-ltb, le-ltb}
+use Rattle.job.specs.Refusal.{jobRefusal}
 use Rattle.parts.specs.declared.table.Found.{Found}
 use Rattle.job.proofs.refusal.job_refusal.Statement.{statement}
 use Rattle.job.proofs.refusal.job_refusal.Tie as tie
-use Rattle.job.proofs.refusal.job_refusal.Reads as reads
-use Rattle.job.proofs.refusal.job_refusal.Lts as lts
-use Rattle.job.proofs.refusal.range_refusal.Reads as range-refusal-reads
-use Rattle.parts.proofs.part_row.Reads as part-row-reads
 
 part-row-requires : tie.Need-part-row-requires
 part-row-requires c κs = search needs

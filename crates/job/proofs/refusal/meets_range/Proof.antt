@@ -1,16 +1,9 @@
-use Rattle.parts.proofs.Rules.{tests}
+-- `job::refusal::meets_range` meets its contract.
 use borrow.Author.Needs.{needs}
-use native.Mathlib.Omega.{arith}
-use mathlib.Core.Path.{_≡_, refl, ap, sym, _∙_}
-use Prim.Native.Nat.{ℕ, _+_, _-_, _≤_, _<_, _%_}
-use mathlib.Core.Bool.{Bool, true, false}
-use lib.ListN.{length, getD, take, drop}
-use borrow.Author.Tests.{eq-eqb, ne-eqb, lt-ltb, le-ltb, le-leb, lt-leb, not-true, not-false}
 use Rattle.job.specs.Refusal.{meets}
+use Rattle.parts.proofs.Rules.{tests}
 use Rattle.job.proofs.refusal.meets_range.Statement.{statement}
 use Rattle.job.proofs.refusal.meets_range.Tie as tie
-use Rattle.job.proofs.refusal.meets_range.Reads as reads
-use Rattle.job.proofs.refusal.meets_range.Lts as lts
 
 returns : tie.Need-returns
 unfolding meets

@@ -1,19 +1,10 @@
-use Rattle.parts.proofs.Rules.{tests}
+-- `job::refusal::protection_refusal` meets its contract.
+use mathlib.Core.Path.{ap, sym, _∙_}
 use borrow.Author.Needs.{needs}
-use native.Mathlib.Omega.{arith}
-use mathlib.Core.Path.{_≡_, refl, ap, sym, _∙_}
-use Prim.Native.Nat.{ℕ, _+_, _-_, _≤_, _<_, _%_}
-use mathlib.Core.Bool.{Bool, true, false}
-use lib.ListN.{length, getD, take, drop}
-use borrow.Author.Tests.{eq-eqb, ne-eqb, lt-ltb, le-ltb, le-leb, lt-leb, not-true, not-false}
 use Rattle.job.specs.Refusal.{protectionRefusal, meets}
 use Rattle.parts.specs.declared.span.Span.{Span}
 use Rattle.job.proofs.refusal.protection_refusal.Statement.{statement}
 use Rattle.job.proofs.refusal.protection_refusal.Tie as tie
-use Rattle.job.proofs.refusal.protection_refusal.Reads as reads
-use Rattle.job.proofs.refusal.protection_refusal.Lts as lts
-use Rattle.job.proofs.refusal.meets_range.Reads as meets-range-reads
-use Rattle.parts.proofs.table.Row.protected_range.Reads as protected-range-reads
 
 returns : tie.Need-returns
 unfolding protectionRefusal

@@ -1,23 +1,14 @@
-use borrow.Author.Needs.{needs}
+-- `job::refusal::range_refusal` meets its contract.
+use Prim.Native.Nat.{_+_}
+use mathlib.Core.Path.{sym, _∙_}
 use native.Mathlib.Omega.{arith}
-use mathlib.Core.Path.{_≡_, refl, ap, sym, _∙_}
-use Prim.Native.Nat.{ℕ, _+_, _-_, _≤_, _<_, _%_}
-use lib.ListN.{length, getD, take, drop}
-use borrow.Author.Tests.{eq-eqb, ne-eqb, lt-ltb, le-ltb, le-leb, lt-leb, not-true, not-false, leb-true, ltb-true}
-use Rattle.parts.proofs.Rules.{tests}
-use mathlib.Core.Bool.{Bool, true, false}
-use borrow.Author.Tests.{eq-eqb, ne-eqb, lt-ltb, le-ltb, le-leb, lt-leb, not-true, not-false}
+use lib.ListN.{length}
+use borrow.Author.Needs.{needs}
+use borrow.Author.Tests.{lt-ltb, le-ltb, not-true, not-false, leb-true}
 use Rattle.job.specs.Refusal.{rangeRefusal}
-use Rattle.parts.specs.Width.{sectorSize}
 use Rattle.parts.proofs.Ranges.{sector-some}
 use Rattle.job.proofs.refusal.range_refusal.Statement.{statement}
 use Rattle.job.proofs.refusal.range_refusal.Tie as tie
-use Rattle.job.proofs.refusal.range_refusal.Reads as reads
-use Rattle.job.proofs.refusal.range_refusal.Lts as lts
-use Rattle.job.proofs.refusal.all_fit.Reads as all-fit-reads
-use Rattle.job.proofs.refusal.protection_refusal.Reads as protection-refusal-reads
-use Rattle.job.proofs.refusal.within.Reads as within-reads
-use Rattle.parts.proofs.table.Row.sector_size.Reads as sector-size-reads
 
 sector-size-requires : tie.Need-sector-size-requires
 sector-size-requires c κs = search needs

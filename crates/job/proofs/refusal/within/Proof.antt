@@ -1,17 +1,12 @@
-use borrow.Author.Needs.{needs}
+-- `job::refusal::within` meets its contract.
+use Prim.Native.Nat.{_+_, _<_}
+use mathlib.Core.Path.{sym}
 use native.Mathlib.Omega.{arith}
-use mathlib.Core.Path.{_≡_, refl, ap, sym, _∙_}
-use Prim.Native.Nat.{ℕ, _+_, _-_, _≤_, _<_, _%_}
-use lib.ListN.{length, getD, take, drop}
-use borrow.Author.Tests.{eq-eqb, ne-eqb, lt-ltb, le-ltb, le-leb, lt-leb, not-true, not-false, leb-true, ltb-true}
+use borrow.Author.Needs.{needs}
+use borrow.Author.Tests.{lt-leb}
 use Rattle.job.proofs.Turns.{bound-left}
-use Rattle.parts.proofs.Rules.{tests}
-use mathlib.Core.Bool.{Bool, true, false}
-use borrow.Author.Tests.{eq-eqb, ne-eqb, lt-ltb, le-ltb, le-leb, lt-leb, not-true, not-false}
 use Rattle.job.proofs.refusal.within.Statement.{statement}
 use Rattle.job.proofs.refusal.within.Tie as tie
-use Rattle.job.proofs.refusal.within.Reads as reads
-use Rattle.job.proofs.refusal.within.Lts as lts
 
 returns : tie.Need-returns
 returns c = let h : c .before .args .cells < c .before .args .first + c .before .args .count = omega arith in sym (lt-leb (c .before .args .first + c .before .args .count) (c .before .args .cells) h)

@@ -1,17 +1,13 @@
-use Rattle.parts.proofs.Rules.{tests}
-use borrow.Author.Needs.{needs}
+-- `job::search::leading` meets its contract.
+use Prim.Native.Nat.{_+_, _-_, _≤_}
+use mathlib.Core.Path.{_≡_}
 use native.Mathlib.Omega.{arith}
-use mathlib.Core.Path.{_≡_, refl, ap, sym, _∙_}
-use Prim.Native.Nat.{ℕ, _+_, _-_, _≤_, _<_, _%_}
-use mathlib.Core.Bool.{Bool, true, false}
-use lib.ListN.{length, getD, take, drop}
-use borrow.Author.Tests.{eq-eqb, ne-eqb, lt-ltb, le-ltb, le-leb, lt-leb, not-true, not-false}
+use lib.ListN.{length, drop}
+use borrow.Author.Needs.{needs}
 use Rattle.job.specs.Search.{leadingOf}
 use Rattle.job.proofs.Turns.{front-more, front-ends, front-none}
 use Rattle.job.proofs.search.leading.Statement.{statement}
 use Rattle.job.proofs.search.leading.Tie as tie
-use Rattle.job.proofs.search.leading.Reads as reads
-use Rattle.job.proofs.search.leading.Lts as lts
 
 abbrev Inv-loop : tie.InvT-loop
 Inv-loop values v i₀ i = (i ≤ length values) × (leadingOf v values ≡ i + leadingOf v (drop i values))

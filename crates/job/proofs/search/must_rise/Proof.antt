@@ -1,18 +1,14 @@
-use Rattle.parts.proofs.Rules.{tests}
-use borrow.Author.Needs.{needs}
-use native.Mathlib.Omega.{arith}
-use mathlib.Core.Path.{_≡_, refl, ap, sym, _∙_}
-use Prim.Native.Nat.{ℕ, _+_, _-_, _≤_, _<_, _%_}
-use mathlib.Core.Bool.{Bool, true, false}
-use lib.ListN.{length, getD, take, drop}
-use borrow.Author.Tests.{eq-eqb, ne-eqb, lt-ltb, le-ltb, le-leb, lt-leb, not-true, not-false}
+-- `job::search::must_rise` meets its contract.
+use Prim.Native.Nat.{_-_, _≤_}
+use mathlib.Core.Path.{_≡_, sym, _∙_}
+use mathlib.Core.Bool.{false}
 use mathlib.Core.Logic.{⊎-elim}
+use lib.ListN.{length, drop}
+use borrow.Author.Needs.{needs}
 use Rattle.job.specs.Search.{bitRises, rises}
 use Rattle.job.proofs.Turns.{bit-hit, bit-miss-old, bit-miss-new, bit-none, rest-hit, rest-miss, rest-none}
 use Rattle.job.proofs.search.must_rise.Statement.{statement}
 use Rattle.job.proofs.search.must_rise.Tie as tie
-use Rattle.job.proofs.search.must_rise.Reads as reads
-use Rattle.job.proofs.search.must_rise.Lts as lts
 
 abbrev Inv-loop : tie.InvT-loop
 Inv-loop old new width found₀ i o₀ n₀ left₀ found o n left = (found ≡ false) × (bitRises left₀ o₀ n₀ ≡ bitRises left o n)
@@ -51,8 +47,10 @@ loop-less : tie.Need-loop-less Inv-loop μ-loop Inv-cells μ-cells
 loop-less c = search needs
 
 loop-again : tie.Need-loop-again Inv-loop μ-loop Inv-cells μ-cells
-loop-again c = (c .before .before .loop .inv .0,
-    ⊎-elim (λ w. c .before .before .loop .inv .1 ∙ bit-miss-new _ _ _ (search needs) (w .0 .taken) (w .1 .left)) (λ w. c .before .before .loop .inv .1 ∙ bit-miss-old _ _ _ (search needs) (w .left)) (c .if1 .came))
+loop-again c = (
+  c .before .before .loop .inv .0,
+  ⊎-elim (λ w. c .before .before .loop .inv .1 ∙ bit-miss-new _ _ _ (search needs) (w .0 .taken) (w .1 .left)) (λ w. c .before .before .loop .inv .1 ∙ bit-miss-old _ _ _ (search needs) (w .left)) (c .if1 .came),
+)
 
 add-i : tie.Need-add-i Inv-loop μ-loop Inv-cells μ-cells
 add-i c = search needs
@@ -61,8 +59,13 @@ cells-less : tie.Need-cells-less Inv-loop μ-loop Inv-cells μ-cells
 cells-less c = search needs
 
 cells-again : tie.Need-cells-again Inv-loop μ-loop Inv-cells μ-cells
-cells-again c = (c .before .loop .inv .0, (search needs,
-    c .before .before .before .before .before .cells .inv .1 .1 ∙ rest-miss (c .before .before .before .before .before .before .args .width) (c .before .before .before .before .before .before .args .old .now) (c .before .before .before .before .before .before .args .new .now) (c .before .before .before .before .before .cells .i) (search needs) (search needs) (c .before .loop .inv .1 ∙ bit-none _ _ _ (search needs))))
+cells-again c = (
+  c .before .loop .inv .0,
+  (
+    search needs,
+    c .before .before .before .before .before .cells .inv .1 .1 ∙ rest-miss (c .before .before .before .before .before .before .args .width) (c .before .before .before .before .before .before .args .old .now) (c .before .before .before .before .before .before .args .new .now) (c .before .before .before .before .before .cells .i) (search needs) (search needs) (c .before .loop .inv .1 ∙ bit-none _ _ _ (search needs)),
+  ),
+)
 
 returns : tie.Need-returns Inv-loop μ-loop Inv-cells μ-cells
 returns c = c .before .cells .inv .0 ∙ sym (c .before .cells .inv .1 .1 ∙ rest-none (c .before .before .args .width) (c .before .before .args .old .now) (c .before .before .args .new .now) (c .before .cells .i) (search needs))

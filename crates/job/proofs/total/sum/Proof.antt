@@ -1,20 +1,13 @@
-use Rattle.parts.proofs.Rules.{tests}
-use borrow.Author.Needs.{needs}
+-- `job::total::sum` meets its contract.
+use Prim.Native.Nat.{_+_, _-_, _≤_, _<_, _%_}
+use mathlib.Core.Path.{_≡_}
 use native.Mathlib.Omega.{arith}
-use mathlib.Core.Path.{_≡_, refl, ap, sym, _∙_}
-use Prim.Native.Nat.{ℕ, _+_, _-_, _≤_, _<_, _%_}
-use mathlib.Core.Bool.{Bool, true, false}
-use lib.ListN.{length, getD, take, drop}
-use borrow.Author.Tests.{eq-eqb, ne-eqb, lt-ltb, le-ltb, le-leb, lt-leb, not-true, not-false}
-use Rattle.parts.specs.Width.{valueOf}
+use lib.ListN.{length, drop}
+use borrow.Author.Needs.{needs}
 use Rattle.job.specs.Total.{totalOf}
 use Rattle.job.proofs.Turns.{total-more, total-none}
 use Rattle.job.proofs.total.sum.Statement.{statement}
 use Rattle.job.proofs.total.sum.Tie as tie
-use Rattle.job.proofs.total.sum.Reads as reads
-use Rattle.job.proofs.total.sum.Lts as lts
-use Rattle.parts.proofs.value.Reads as value-reads
-use Rattle.std.proofs.num.wrapping_add_u16.Reads as wrapping-add-u16-reads
 
 abbrev Inv-loop : tie.InvT-loop
 Inv-loop cells width acc₀ i₀ acc i = (i ≤ length cells) × ((acc < 65536) × ((acc + totalOf width (drop i cells)) % 65536 ≡ totalOf width cells % 65536))

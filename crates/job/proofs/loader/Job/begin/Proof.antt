@@ -1,25 +1,13 @@
+-- `job::loader::Job::begin` meets its contract.
+use mathlib.Core.Path.{ap, sym, _∙_}
 use borrow.Author.Needs.{needs}
-use native.Mathlib.Omega.{arith}
-use mathlib.Core.Path.{_≡_, refl, ap, sym, _∙_}
-use mathlib.Core.Bool.{true, false}
-use Prim.Native.Nat.{ℕ, _+_, _-_, _≤_, _<_, _%_}
-use lib.ListN.{length, getD, take, drop}
-use borrow.Author.Tests.{eq-eqb, ne-eqb, lt-ltb, le-ltb, le-leb, lt-leb, not-true, not-false, leb-true, ltb-true}
+use borrow.Author.Tests.{eq-eqb, ne-eqb}
 use Rattle.driver.specs.declared.machine.Driver.{Driver}
-use Rattle.job.specs.Loader.{firstStep}
+use Rattle.job.specs.Loader.{firstStep, beginOf}
 use Rattle.driver.specs.Machine.{stepOf}
-use Rattle.parts.proofs.Rules.{tests}
-use mathlib.Core.Bool.{Bool, true, false}
-use borrow.Author.Tests.{eq-eqb, ne-eqb, lt-ltb, le-ltb, le-leb, lt-leb, not-true, not-false}
-use Rattle.job.specs.Loader.{beginOf}
 use Rattle.driver.specs.declared.machine.Started.{Started}
 use Rattle.job.proofs.loader.Job.begin.Statement.{statement}
 use Rattle.job.proofs.loader.Job.begin.Tie as tie
-use Rattle.job.proofs.loader.Job.begin.Reads as reads
-use Rattle.job.proofs.loader.Job.begin.Lts as lts
-use Rattle.driver.proofs.machine.Driver.step.Reads as step-reads
-use Rattle.driver.proofs.start.Reads as start-reads
-use Rattle.job.proofs.loader.Job.first_step.Reads as first-step-reads
 
 add-start : tie.Need-add-start
 add-start c = search needs

@@ -1,18 +1,9 @@
-use Rattle.parts.proofs.Rules.{tests}
+-- `job::loader::Job::burn` meets its contract.
 use borrow.Author.Needs.{needs}
-use native.Mathlib.Omega.{arith}
-use mathlib.Core.Path.{_≡_, refl, ap, sym, _∙_}
-use Prim.Native.Nat.{ℕ, _+_, _-_, _≤_, _<_, _%_}
-use mathlib.Core.Bool.{Bool, true, false}
-use lib.ListN.{length, getD, take, drop}
-use borrow.Author.Tests.{eq-eqb, ne-eqb, lt-ltb, le-ltb, le-leb, lt-leb, not-true, not-false}
+use borrow.Author.Tests.{eq-eqb, ne-eqb}
 use Rattle.job.specs.Loader.{burnOf}
 use Rattle.job.proofs.loader.Job.burn.Statement.{statement}
 use Rattle.job.proofs.loader.Job.burn.Tie as tie
-use Rattle.job.proofs.loader.Job.burn.Reads as reads
-use Rattle.job.proofs.loader.Job.burn.Lts as lts
-use Rattle.job.proofs.loader.Job.begin.Reads as begin-reads
-use Rattle.job.proofs.loader.Job.look.Reads as look-reads
 
 add-data : tie.Need-add-data
 add-data c = search needs

@@ -1,21 +1,16 @@
-use borrow.Author.Needs.{needs}
-use native.Mathlib.Omega.{arith}
-use mathlib.Core.Path.{_≡_, refl, ap, sym, _∙_}
+-- `job::loader::Job::decide` meets its contract.
+use Prim.Native.Nat.{_+_, _-_, _≤_}
+use mathlib.Core.Path.{_≡_, sym, _∙_}
 use mathlib.Core.Bool.{true, false}
-use Prim.Native.Nat.{ℕ, _+_, _-_, _≤_, _<_, _%_}
-use lib.ListN.{length, getD, take, drop}
-use borrow.Author.Tests.{eq-eqb, ne-eqb, lt-ltb, le-ltb, le-leb, lt-leb, not-true, not-false, leb-true, ltb-true}
+use native.Mathlib.Omega.{arith}
+use lib.ListN.{length, take, drop}
 use lib.Seq.{length-take-le}
+use borrow.Author.Needs.{needs}
 use Rattle.job.specs.Search.{rises}
-use Rattle.job.proofs.Turns.{part-length}
 use Rattle.job.specs.Loader.{decideOf}
+use Rattle.job.proofs.Turns.{part-length}
 use Rattle.job.proofs.loader.Job.decide.Statement.{statement}
 use Rattle.job.proofs.loader.Job.decide.Tie as tie
-use Rattle.job.proofs.loader.Job.decide.Reads as reads
-use Rattle.job.proofs.loader.Job.decide.Lts as lts
-use Rattle.job.proofs.loader.Job.begin.Reads as begin-reads
-use Rattle.job.proofs.loader.Job.look.Reads as look-reads
-use Rattle.job.proofs.search.must_rise.Reads as must-rise-reads
 
 cast-size : tie.Need-cast-size
 cast-size c = search needs

@@ -1,24 +1,16 @@
-use borrow.Author.Needs.{needs}
+-- `job::loader::Job::fill` meets its contract.
+use Prim.Native.Nat.{ℕ, _+_, _-_, _≤_}
+use mathlib.Core.Path.{_≡_, ap, sym, _∙_}
 use native.Mathlib.Omega.{arith}
-use mathlib.Core.Path.{_≡_, refl, ap, sym, _∙_}
-use mathlib.Core.Bool.{true, false}
-use Prim.Native.Nat.{ℕ, _+_, _-_, _≤_, _<_, _%_}
-use lib.ListN.{length, getD, take, drop}
-use borrow.Author.Tests.{eq-eqb, ne-eqb, lt-ltb, le-ltb, le-leb, lt-leb, not-true, not-false, leb-true, ltb-true}
+use lib.ListN.{length, take, drop}
+use borrow.Author.Needs.{needs}
+use borrow.Author.Tests.{lt-ltb, le-ltb}
 use Rattle.parts.specs.Width.{blankOf}
+use Rattle.job.specs.Loader.{nextMark, fillOf}
 use Rattle.parts.proofs.Values.{blank-word}
-use Rattle.job.specs.Search.{leadingOf}
-use Rattle.job.specs.Loader.{nextMark}
 use Rattle.job.proofs.Turns.{part-length, leading-le}
-use Rattle.job.specs.Loader.{fillOf}
 use Rattle.job.proofs.loader.Job.fill.Statement.{statement}
 use Rattle.job.proofs.loader.Job.fill.Tie as tie
-use Rattle.job.proofs.loader.Job.fill.Reads as reads
-use Rattle.job.proofs.loader.Job.fill.Lts as lts
-use Rattle.job.proofs.loader.Job.begin.Reads as begin-reads
-use Rattle.job.proofs.loader.Job.first_turn.Reads as first-turn-reads
-use Rattle.job.proofs.search.leading.Reads as leading-reads
-use Rattle.parts.proofs.blank.Reads as blank-reads
 
 add-from : tie.Need-add-from
 add-from c = search needs

@@ -1,17 +1,7 @@
-use Rattle.parts.proofs.Rules.{tests}
+-- `job::loader::Job::first_step` meets its contract.
 use borrow.Author.Needs.{needs}
-use native.Mathlib.Omega.{arith}
-use mathlib.Core.Path.{_≡_, refl, ap, sym, _∙_}
-use Prim.Native.Nat.{ℕ, _+_, _-_, _≤_, _<_, _%_}
-use mathlib.Core.Bool.{Bool, true, false}
-use lib.ListN.{length, getD, take, drop}
-use borrow.Author.Tests.{eq-eqb, ne-eqb, lt-ltb, le-ltb, le-leb, lt-leb, not-true, not-false}
-use Rattle.job.specs.Loader.{firstStep}
 use Rattle.job.proofs.loader.Job.first_step.Statement.{statement}
 use Rattle.job.proofs.loader.Job.first_step.Tie as tie
-use Rattle.job.proofs.loader.Job.first_step.Reads as reads
-use Rattle.job.proofs.loader.Job.first_step.Lts as lts
-use Rattle.job.proofs.loader.Job.goes_on.Reads as goes-on-reads
 
 enum-told : tie.Need-enum-told
 enum-told c = search needs

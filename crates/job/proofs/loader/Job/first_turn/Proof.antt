@@ -1,17 +1,10 @@
-use Rattle.parts.proofs.Rules.{tests}
+-- `job::loader::Job::first_turn` meets its contract.
 use borrow.Author.Needs.{needs}
-use native.Mathlib.Omega.{arith}
-use mathlib.Core.Path.{_≡_, refl, ap, sym, _∙_}
-use Prim.Native.Nat.{ℕ, _+_, _-_, _≤_, _<_, _%_}
-use mathlib.Core.Bool.{Bool, true, false}
-use lib.ListN.{length, getD, take, drop}
-use borrow.Author.Tests.{eq-eqb, ne-eqb, lt-ltb, le-ltb, le-leb, lt-leb, not-true, not-false}
+use borrow.Author.Tests.{lt-ltb}
 use Rattle.job.specs.Loader.{firstOf}
+use Rattle.parts.proofs.Rules.{tests}
 use Rattle.job.proofs.loader.Job.first_turn.Statement.{statement}
 use Rattle.job.proofs.loader.Job.first_turn.Tie as tie
-use Rattle.job.proofs.loader.Job.first_turn.Reads as reads
-use Rattle.job.proofs.loader.Job.first_turn.Lts as lts
-use Rattle.job.proofs.loader.Job.reads_cell.Reads as reads-cell-reads
 
 reads-cell-requires : tie.Need-reads-cell-requires
 reads-cell-requires c κs = search needs

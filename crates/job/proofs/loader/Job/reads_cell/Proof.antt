@@ -1,16 +1,7 @@
-use Rattle.parts.proofs.Rules.{tests}
+-- `job::loader::Job::reads_cell` meets its contract.
 use borrow.Author.Needs.{needs}
-use native.Mathlib.Omega.{arith}
-use mathlib.Core.Path.{_≡_, refl, ap, sym, _∙_}
-use Prim.Native.Nat.{ℕ, _+_, _-_, _≤_, _<_, _%_}
-use mathlib.Core.Bool.{Bool, true, false}
-use lib.ListN.{length, getD, take, drop}
-use borrow.Author.Tests.{eq-eqb, ne-eqb, lt-ltb, le-ltb, le-leb, lt-leb, not-true, not-false}
 use Rattle.job.proofs.loader.Job.reads_cell.Statement.{statement}
 use Rattle.job.proofs.loader.Job.reads_cell.Tie as tie
-use Rattle.job.proofs.loader.Job.reads_cell.Reads as reads
-use Rattle.job.proofs.loader.Job.reads_cell.Lts as lts
-use Rattle.job.proofs.loader.no_driver.Reads as no-driver-reads
 
 add-t9 : tie.Need-add-t9
 add-t9 c = search needs

@@ -1,18 +1,9 @@
-use Rattle.parts.proofs.Rules.{tests}
+-- `job::loader::Job::scanned` meets its contract.
 use borrow.Author.Needs.{needs}
-use native.Mathlib.Omega.{arith}
-use mathlib.Core.Path.{_≡_, refl, ap, sym, _∙_}
-use Prim.Native.Nat.{ℕ, _+_, _-_, _≤_, _<_, _%_}
-use mathlib.Core.Bool.{Bool, true, false}
-use lib.ListN.{length, getD, take, drop}
-use borrow.Author.Tests.{eq-eqb, ne-eqb, lt-ltb, le-ltb, le-leb, lt-leb, not-true, not-false}
+use borrow.Author.Tests.{lt-ltb, le-ltb}
 use Rattle.job.specs.Loader.{scannedOf}
 use Rattle.job.proofs.loader.Job.scanned.Statement.{statement}
 use Rattle.job.proofs.loader.Job.scanned.Tie as tie
-use Rattle.job.proofs.loader.Job.scanned.Reads as reads
-use Rattle.job.proofs.loader.Job.scanned.Lts as lts
-use Rattle.job.proofs.loader.Job.decide.Reads as decide-reads
-use Rattle.job.proofs.loader.Job.reads_cell.Reads as reads-cell-reads
 
 add-if1 : tie.Need-add-if1
 add-if1 c = search needs

@@ -1,16 +1,9 @@
-use Rattle.parts.proofs.Rules.{tests}
+-- `job::loader::Loader::is_within` meets its contract.
 use borrow.Author.Needs.{needs}
-use native.Mathlib.Omega.{arith}
-use mathlib.Core.Path.{_≡_, refl, ap, sym, _∙_}
-use Prim.Native.Nat.{ℕ, _+_, _-_, _≤_, _<_, _%_}
-use mathlib.Core.Bool.{Bool, true, false}
-use lib.ListN.{length, getD, take, drop}
-use borrow.Author.Tests.{eq-eqb, ne-eqb, lt-ltb, le-ltb, le-leb, lt-leb, not-true, not-false}
 use Rattle.job.specs.Loader.{within}
+use Rattle.parts.proofs.Rules.{tests}
 use Rattle.job.proofs.loader.Loader.is_within.Statement.{statement}
 use Rattle.job.proofs.loader.Loader.is_within.Tie as tie
-use Rattle.job.proofs.loader.Loader.is_within.Reads as reads
-use Rattle.job.proofs.loader.Loader.is_within.Lts as lts
 
 cast-if1 : tie.Need-cast-if1
 cast-if1 c = search needs

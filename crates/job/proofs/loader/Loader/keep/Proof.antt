@@ -1,15 +1,7 @@
-use Rattle.parts.proofs.Rules.{tests}
+-- `job::loader::Loader::keep` meets its contract.
 use borrow.Author.Needs.{needs}
-use native.Mathlib.Omega.{arith}
-use mathlib.Core.Path.{_≡_, refl, ap, sym, _∙_}
-use Prim.Native.Nat.{ℕ, _+_, _-_, _≤_, _<_, _%_}
-use mathlib.Core.Bool.{Bool, true, false}
-use lib.ListN.{length, getD, take, drop}
-use borrow.Author.Tests.{eq-eqb, ne-eqb, lt-ltb, le-ltb, le-leb, lt-leb, not-true, not-false}
 use Rattle.job.proofs.loader.Loader.keep.Statement.{statement}
 use Rattle.job.proofs.loader.Loader.keep.Tie as tie
-use Rattle.job.proofs.loader.Loader.keep.Reads as reads
-use Rattle.job.proofs.loader.Loader.keep.Lts as lts
 
 cast-at : tie.Need-cast-at
 cast-at c = search needs

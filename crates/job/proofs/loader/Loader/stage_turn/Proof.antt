@@ -1,19 +1,7 @@
-use Rattle.parts.proofs.Rules.{tests}
+-- `job::loader::Loader::stage_turn` meets its contract.
 use borrow.Author.Needs.{needs}
-use native.Mathlib.Omega.{arith}
-use mathlib.Core.Path.{_≡_, refl, ap, sym, _∙_}
-use Prim.Native.Nat.{ℕ, _+_, _-_, _≤_, _<_, _%_}
-use mathlib.Core.Bool.{Bool, true, false}
-use lib.ListN.{length, getD, take, drop}
-use borrow.Author.Tests.{eq-eqb, ne-eqb, lt-ltb, le-ltb, le-leb, lt-leb, not-true, not-false}
 use Rattle.job.proofs.loader.Loader.stage_turn.Statement.{statement}
 use Rattle.job.proofs.loader.Loader.stage_turn.Tie as tie
-use Rattle.job.proofs.loader.Loader.stage_turn.Reads as reads
-use Rattle.job.proofs.loader.Loader.stage_turn.Lts as lts
-use Rattle.driver.proofs.machine.Driver.step.Reads as step-reads
-use Rattle.job.proofs.loader.Job.burn.Reads as burn-reads
-use Rattle.job.proofs.loader.Job.driven.Reads as driven-reads
-use Rattle.job.proofs.loader.Job.scanned.Reads as scanned-reads
 
 enum-told : tie.Need-enum-told
 enum-told c = search needs

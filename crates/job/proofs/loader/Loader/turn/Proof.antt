@@ -1,21 +1,12 @@
-use borrow.Author.Needs.{needs}
+-- `job::loader::Loader::turn` meets its contract.
+use mathlib.Core.Path.{refl, sym, _∙_}
 use native.Mathlib.Omega.{arith}
-use mathlib.Core.Path.{_≡_, refl, ap, sym, _∙_}
-use mathlib.Core.Bool.{true, false}
-use Prim.Native.Nat.{ℕ, _+_, _-_, _≤_, _<_, _%_}
-use lib.ListN.{length, getD, take, drop}
-use borrow.Author.Tests.{eq-eqb, ne-eqb, lt-ltb, le-ltb, le-leb, lt-leb, not-true, not-false, leb-true, ltb-true}
-use Rattle.parts.proofs.Every.{both}
-use Rattle.job.specs.Loader.{within}
-use Rattle.job.proofs.Within.{in-sector}
+use borrow.Author.Needs.{needs}
+use borrow.Author.Tests.{not-true, not-false}
 use Rattle.job.specs.Loader.{turnOf}
+use Rattle.job.proofs.Within.{in-sector}
 use Rattle.job.proofs.loader.Loader.turn.Statement.{statement}
 use Rattle.job.proofs.loader.Loader.turn.Tie as tie
-use Rattle.job.proofs.loader.Loader.turn.Reads as reads
-use Rattle.job.proofs.loader.Loader.turn.Lts as lts
-use Rattle.job.proofs.loader.Loader.is_within.Reads as is-within-reads
-use Rattle.job.proofs.loader.Loader.keep.Reads as keep-reads
-use Rattle.job.proofs.loader.Loader.stage_turn.Reads as stage-turn-reads
 
 is-within-requires : tie.Need-is-within-requires
 is-within-requires c κs = search needs
