@@ -7,8 +7,8 @@ use Rattle.parts.specs.Width.{valueOf, blankOf}
 use Rattle.parts.specs.Table.{rowOf}
 use Rattle.parts.specs.Time.{pollsOf}
 use Rattle.parts.specs.declared.table.Row.{Row}
-use Rattle.chip.specs.declared.cycle.Action.{Action}
 use Rattle.chip.specs.declared.cycle.Action.the-variants.{Read, Write}
+use Rattle.driver.specs.declared.writes.Write.{Write as Written}
 use Rattle.driver.specs.declared.machine.Phase.{Phase}
 use Rattle.driver.specs.declared.machine.Phase.the-variants.{Writing, Polling, Confirming, Done, GaveUp, Differs}
 use Rattle.driver.specs.declared.machine.Driver.{Driver}
@@ -106,10 +106,11 @@ unfoldable pub afterWrite : Driver → Driver
 afterWrite d = pick (ltb (d .count + 1) (writeCount (d .command))) (moved d Writing (d .count + 1)) (moved d Polling 0)
 
 -- the next write, at 0 µs
+abbrev pub nextWrite : Row → Driver → Written
+nextWrite r d = nthWrite r (d .command) (d .address) (d .«data») (d .count)
+
 unfoldable pub writingOf : Row → Driver → Step
-writingOf r d =
-    step 0 (afterWrite d)
-    (Send 0 (Write (nthWrite r (d .command) (d .address) (d .«data») (d .count) .address) (nthWrite r (d .command) (d .address) (d .«data») (d .count) .«data»))) 0
+writingOf r d = step 0 (afterWrite d) (Send 0 (Write (nextWrite r d .address) (nextWrite r d .«data»))) 0
 
 -- one more poll, p µs after the last cycle
 abbrev pub polls : Driver → Step
