@@ -4,3 +4,8 @@ pub mod Leaves
 pub mod Accepted
 pub mod Settled
 pub mod Cases
+pub mod Effects
+pub mod Trace
+pub mod Ranges
+pub mod Marked
+pub mod Determined

@@ -50,11 +50,11 @@ fn fill(cells: &mut [u16], v: u16)
 fn scar_each(cells: &mut [u16], width: u32, scar: u16)
     ensures { λ _. ⌜ now (cells .exit) ≡ map (λ x. bitOr (valueOf width x) scar) (now (cells .entry)) ⌝ }
 {
-    let mut i: usize = 0;
-    while i < cells.len() {
-        let v = parts::value(width, cells[i]);
-        cells[i] = v | scar;
-        i += 1;
+    let mut at: usize = 0;
+    while at < cells.len() {
+        let v = parts::value(width, cells[at]);
+        cells[at] = v | scar;
+        at += 1;
     }
 }
 

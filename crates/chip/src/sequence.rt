@@ -16,6 +16,9 @@ pub enum Effect {
     Returns,
 }
 
+// A write that does not continue the sequence returns to read mode; it is not taken as a first write.
+const BROKEN: Effect = Effect::Returns;
+
 // Whether a write is a byte at U1.
 fn at_u1(row: Row, a: u32, x: u16, byte: u32) -> bool
     requires { ⌜ Sized row ⌝ }
@@ -45,7 +48,7 @@ fn on(met: bool, stage: u32) -> Effect
     if met {
         return Effect::Goes(stage);
     }
-    Effect::Returns
+    BROKEN
 }
 
 // The third write, after 55H.
@@ -62,7 +65,7 @@ fn third_write(row: Row, a: u32, x: u16) -> Effect
     if at_u1(row, a, x, 0x90) {
         return Effect::Identifies;
     }
-    Effect::Returns
+    BROKEN
 }
 
 // The block code: a block erase where the part has blocks.
@@ -72,7 +75,7 @@ fn block_erase(row: Row) -> Effect
     if 0 < row.block {
         return Effect::Starts(2);
     }
-    Effect::Returns
+    BROKEN
 }
 
 // The last write of an erase, after the second 55H.
@@ -90,7 +93,7 @@ fn last_write(row: Row, a: u32, x: u16) -> Effect
     if at_u1(row, a, x, 0x10) {
         return Effect::Starts(3);
     }
-    Effect::Returns
+    BROKEN
 }
 
 // What follows from a write at a stage.
@@ -106,7 +109,7 @@ fn effect_of(row: Row, stage: u32, a: u32, x: u16) -> Effect
         4 => on(at_u1(row, a, x, 0xaa), 5),
         5 => on(at_u2(row, a, x, 0x55), 6),
         6 => last_write(row, a, x),
-        _ => Effect::Returns,
+        _ => BROKEN,
     }
 }
 

@@ -10,10 +10,10 @@ use Rattle.chip.proofs.operation.scar_each.Statement.{statement}
 use Rattle.chip.proofs.operation.scar_each.Tie as tie
 
 abbrev Inv-loop : tie.InvT-loop
-Inv-loop cells₀ width scar i₀ cells i = (i ≤ length cells₀) × ((length cells ≡ length cells₀) × (cells ≡ reached (λ x. bitOr (valueOf width x) scar) i cells₀))
+Inv-loop cells₀ width scar at₀ cells at = (at ≤ length cells₀) × ((length cells ≡ length cells₀) × (cells ≡ reached (λ x. bitOr (valueOf width x) scar) at cells₀))
 
 abbrev μ-loop : tie.MeasureT-loop
-μ-loop cells₀ width scar i₀ cells i = length cells₀ - i
+μ-loop cells₀ width scar at₀ cells at = length cells₀ - at
 
 loop-holds : tie.Need-loop-holds Inv-loop μ-loop
 loop-holds c = search needs
@@ -33,20 +33,20 @@ mul-cells c = search needs
 slice-write-cells : tie.Need-slice-write-cells Inv-loop μ-loop
 slice-write-cells c = search needs
 
-add-i : tie.Need-add-i Inv-loop μ-loop
-add-i c = search needs
+add-at : tie.Need-add-at Inv-loop μ-loop
+add-at c = search needs
 
 loop-less : tie.Need-loop-less Inv-loop μ-loop
 loop-less c = search needs
 
 loop-again : tie.Need-loop-again Inv-loop μ-loop
-loop-again c = (search needs, (search needs, rw (c .value .ensures) (reached-step (λ x. bitOr (valueOf (c .before .before .before .before .before .args .width) x) (c .before .before .before .before .before .args .scar)) _ (c .before .before .before .before .before .args .cells .now) (c .before .before .before .loop .i) (c .before .before .before .loop .inv .1 .1) (search needs))))
+loop-again c = (search needs, (search needs, rw (c .value .ensures) (reached-step (λ x. bitOr (valueOf (c .before .before .before .before .before .args .width) x) (c .before .before .before .before .before .args .scar)) _ (c .before .before .before .before .before .args .cells .now) (c .before .before .before .loop .at) (c .before .before .before .loop .inv .1 .1) (search needs))))
 
 same-length : tie.Need-same-length Inv-loop μ-loop
 same-length c = search needs
 
 returns : tie.Need-returns Inv-loop μ-loop
-returns c = c .before .loop .inv .1 .1 ∙ reached-all (λ x. bitOr (valueOf (c .before .before .before .args .width) x) (c .before .before .before .args .scar)) (c .before .before .before .args .cells .now) (c .before .loop .i) (search needs)
+returns c = c .before .loop .inv .1 .1 ∙ reached-all (λ x. bitOr (valueOf (c .before .before .before .args .width) x) (c .before .before .before .args .scar)) (c .before .before .before .args .cells .now) (c .before .loop .at) (search needs)
 
 pub scar-each-spec : {M : Type 1} → statement M
 scar-each-spec =
@@ -60,7 +60,7 @@ scar-each-spec =
     value-requires
     mul-cells
     slice-write-cells
-    add-i
+    add-at
     loop-less
     loop-again
     same-length
