@@ -11,7 +11,7 @@ use Rattle.parts.proofs.Every.{split}
 use Rattle.driver.specs.declared.machine.Started.{Started}
 use Rattle.driver.specs.Refusals.{startRefusal}
 use Rattle.driver.specs.Writes.{writeCount}
-use Rattle.driver.specs.Machine.{keptAddress, keptData, begun, startOf, inRange}
+use Rattle.driver.specs.Machine.{addressOf, dataOf, begun, startOf, inRange}
 use Rattle.driver.proofs.Asked.{Target, Asked, Begun, beginning}
 use Rattle.driver.proofs.Asked as Asked
 
@@ -21,11 +21,11 @@ module _ (part command a x p : ℕ) (accepted : startRefusal part command a x p 
   started = rw accepted
 
   -- what is kept of the address and the data is accepted as well
-  pub kept-accepted : startRefusal part command (keptAddress command a) (keptData command x) p ≡ 0
+  pub kept-accepted : startRefusal part command (addressOf command a) (dataOf command x) p ≡ 0
   kept-accepted =
       let w = Asked.begun part command a x p accepted in
       let t = w .asked .target in
-      beginning part command (keptAddress command a) (keptData command x) p
+      beginning part command (addressOf command a) (dataOf command x) p
       (record {
         asked = record { known = w .asked .known; target = record { has = t .has; there = λ n. rw (ne-eqb command 3 n) (t .there n); fits = λ z. rw (eq-eqb command 0 z) (t .fits z) } };
         some = w .some;

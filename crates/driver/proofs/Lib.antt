@@ -3,6 +3,8 @@ pub mod Places
 pub mod Ready
 pub mod Steps
 pub mod Within
+pub mod Commands
+pub mod Talks
 pub mod Begins
 pub mod Theorems
 pub mod Determined

@@ -21,7 +21,7 @@ use Rattle.driver.specs.declared.machine.Next.the-variants.{Nothing, Sen
 use Rattle.driver.specs.declared.machine.Step.{Step}
 use Rattle.driver.specs.Refusals.{startRefusal}
 use Rattle.driver.specs.Writes.{writeCount}
-use Rattle.driver.specs.Machine.{mostPolls, someUpTo, countFits, inRange, moved, step, ending, ended, bitSeven, bitWanted, valueWanted, afterWrite, nextWrite, writingOf, polls, confirms, matches, pollingOf, confirmingOf, phaseOf, stepOf}
+use Rattle.driver.specs.Machine.{mostPolls, someUpTo, countFits, inRange, moved, step, ending, ended, valueWanted, afterWrite, nextWrite, writingOf, polls, confirms, matches, pollingOf, confirmingOf, phaseOf, stepOf}
 use Rattle.driver.specs.Talk.{cycle, isPoll, pollsIn}
 use Rattle.driver.proofs.Ready.{valid-start, valid-count}
 
@@ -99,7 +99,7 @@ module _ (d : Driver) (read : ℕ) (e : inRange d ≡ true) where
   at-confirming : d .phase ≡ Confirming → Way d (confirmingOf (rowOf (d .part)) d read)
   unfolding confirmingOf
   at-confirming q =
-      split (Way d) (eqb (valueOf (rowOf (d .part) .width) read) (valueWanted (rowOf (d .part)) d)) _ _
+      split (Way d) (eqb (valueOf (rowOf (d .part) .width) read) (valueWanted (rowOf (d .part)) (d .command) (d .«data»))) _ _
       (λ _. ends Done e refl (rw q refl) (fits Confirming q)) (λ _. ends Differs e refl (rw q refl) (fits Confirming q))
 
   by-phase : (f : Phase) → d .phase ≡ f → Way d (phaseOf (rowOf (d .part)) f d read)
