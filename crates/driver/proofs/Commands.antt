@@ -1,5 +1,5 @@
 -- A command's writes on the model: each takes the sequence on, and the last one starts the operation.
-use Prim.Native.Nat.{ℕ, zero, suc, zero-le, _%_, _^_, _≤_, _<_}
+use Prim.Native.Nat.{ℕ, zero, suc, zero-le, _%_, _≤_, _<_}
 use mathlib.Core.Path.{_≡_, refl, sym, ap, ap₂, _∙_}
 use mathlib.Core.Bool.{Bool, true, false}
 use mathlib.Core.List.{List, [], _∷_, _++_}
@@ -15,7 +15,7 @@ use Rattle.parts.specs.Table.{rowOf, partRefusal}
 use Rattle.parts.specs.Span.{hasBlocks}
 use Rattle.parts.specs.Time.{hasCommand, timeOf}
 use Rattle.parts.specs.declared.table.Row.{Row}
-use Rattle.parts.proofs.Every.{apart, both, unless, given, split}
+use Rattle.parts.proofs.Every.{apart, unless, split}
 use Rattle.parts.proofs.Values.{lt-fits}
 use Rattle.parts.proofs.Sound.{width-least, time-some, codes-differ, sector-not-chip, block-not-chip, sector-byte, block-byte, u1-compared, u2-compared, compared-cells}
 use Rattle.chip.specs.declared.device.Mode.{Mode}
@@ -27,9 +27,9 @@ use Rattle.chip.specs.declared.cycle.Action.the-variants.{Write as Writes}
 use Rattle.chip.specs.declared.cycle.Cycle.{Cycle}
 use Rattle.chip.specs.Device.{operation, device, busy, reads, inRange, idle}
 use Rattle.chip.specs.Sequence.{effectOf, ignored, started, writtenOf}
-use Rattle.chip.specs.Cycle.{Chip, chip, actionRefusal, settledOf}
-use Rattle.chip.specs.Trace.{leaves, after, play, startedBy, startedIn}
-use Rattle.chip.proofs.Accepted.{Accepted, accepting}
+use Rattle.chip.specs.Cycle.{Chip, chip, actionRefusal}
+use Rattle.chip.specs.Trace.{after, play, startedBy, startedIn}
+use Rattle.chip.proofs.Accepted.{accepting}
 use Rattle.chip.proofs.Cases.{rests, write-rest}
 use Rattle.driver.specs.declared.writes.Write.{Write}
 use Rattle.driver.specs.Writes.{lastWrite, writesOf}

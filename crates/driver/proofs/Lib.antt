@@ -5,6 +5,7 @@ pub mod Steps
 pub mod Within
 pub mod Commands
 pub mod Talks
+pub mod Shown
 pub mod Begins
 pub mod Theorems
 pub mod Determined

@@ -1,18 +1,18 @@
 -- A driver's talk with the model: the writes, the polls while the operation runs and once it has completed, and the end.
 use Prim.Native.Nat.{ℕ, zero, suc, zero-le, _+_, _-_, _*_, _/_, _%_, _≤_, _<_}
-use mathlib.Core.Path.{_≡_, refl, sym, ap, _∙_}
+use mathlib.Core.Path.{_≡_, refl, ap, _∙_}
 use mathlib.Core.Bool.{Bool, true, false, not}
-use mathlib.Core.List.{List, [], _∷_, _++_}
+use mathlib.Core.List.{List, [], _∷_, _++_, append-nil}
 use native.Mathlib.Nat.{suc-mul, one-mul, zero-mul, not-suc-le-zero, le-of-suc-le-suc}
 use native.Mathlib.Numerals.{add-one}
 use native.Mathlib.Omega.{arith}
-use borrow.Author.Tests.{ltb-true, lt-ltb, le-ltb, le-leb, eq-eqb, ne-eqb, eqb-true, eqb-false}
+use borrow.Author.Tests.{lt-ltb, le-ltb, le-leb, ne-eqb, eqb-false}
 use lib.Dec.{eqb, ltb}
-use lib.ListN.{length, getD, drop, replicate}
+use lib.ListN.{length, getD, drop, replicate, replicate-append-replicate}
 use Rattle.parts.specs.Pick.{pick}
 use Rattle.parts.specs.Width.{valueOf}
 use Rattle.parts.specs.Table.{rowOf, partRefusal}
-use Rattle.parts.specs.Time.{hasCommand, timeOf, pollsOf}
+use Rattle.parts.specs.Time.{timeOf, pollsOf}
 use Rattle.parts.specs.declared.table.Row.{Row}
 use Rattle.parts.proofs.Every.{split}
 use Rattle.parts.proofs.Values.{value-value}
@@ -22,13 +22,14 @@ use Rattle.chip.specs.declared.device.Mode.the-variants.{ReadMode}
 use Rattle.chip.specs.declared.device.Operation.{Operation}
 use Rattle.chip.specs.declared.device.Device.{Device}
 use Rattle.chip.specs.declared.cycle.Action.{Action}
-use Rattle.chip.specs.declared.cycle.Action.the-variants.{Read, Write as Writes}
+use Rattle.chip.specs.declared.cycle.Action.the-variants.{Read}
 use Rattle.chip.specs.declared.cycle.Cycle.{Cycle}
-use Rattle.chip.specs.Device.{operation, device, freshDevice}
+use Rattle.chip.specs.Device.{operation, device, freshDevice, idle, inRange as deviceInRange}
 use Rattle.chip.specs.Operation.{cellsOf, completeOn}
-use Rattle.chip.specs.Cycle.{Chip, chip, Outcome, cycleOf, status, bit7, bit6}
+use Rattle.chip.specs.Sequence.{ignored}
+use Rattle.chip.specs.Cycle.{Chip, chip, Outcome, outcome, cycleOf, status, bit6}
 use Rattle.chip.specs.Trace.{leaves, after, play}
-use Rattle.chip.proofs.Accepted.{Valid}
+use Rattle.chip.proofs.Accepted.{Valid, within-cells}
 use Rattle.chip.proofs.Settled.{complete-length}
 use Rattle.chip.proofs.Cases.{read-rest, read-busy, read-done}
 use Rattle.driver.specs.declared.writes.Write.{Write}
@@ -39,11 +40,11 @@ use Rattle.driver.specs.declared.machine.Next.the-variants.{Nothing, Sen
 use Rattle.driver.specs.declared.machine.Step.{Step}
 use Rattle.driver.specs.Refusals.{startRefusal}
 use Rattle.driver.specs.Writes.{write, noWrite, lastWrite, writesOf, writeCount, nthWrite}
-use Rattle.driver.specs.Machine.{mostPolls, countFits, inRange, moved, step, ended, addressOf, bitSeven, bitWanted, valueWanted, afterWrite, writingOf, polls, confirms, matches, pollingOf, confirmingOf, phaseOf, stepOf}
+use Rattle.driver.specs.Machine.{mostPolls, countFits, inRange, moved, step, ended, addressOf, bitSeven, bitWanted, valueWanted, afterWrite, writingOf, polls, matches, pollingOf, confirmingOf, phaseOf, stepOf}
 use Rattle.driver.specs.Talk.{cycle, writeCycle, writeCycles, operationOf, Told, told, led, talk}
-use Rattle.driver.proofs.Asked.{Target, Begun, begun}
+use Rattle.driver.proofs.Asked.{Begun, begun}
 use Rattle.driver.proofs.Steps.{goes, most}
-use Rattle.driver.proofs.Commands.{command-le, last-there, last-fits}
+use Rattle.driver.proofs.Commands.{idle-is, command-le, last-there, last-fits, command-leads}
 
 -- cycles in front of a talk
 abbrev pub sent : List Cycle → Told → Told
@@ -57,6 +58,10 @@ write-length r command a x = by (eqb command 0) _ _ refl refl
     by : (b : Bool) (ws vs : List Write) → length ws ≡ 4 → length vs ≡ 6 → length (pick b ws vs) ≡ pick b 4 6
     by true ws vs e f = e
     by false ws vs e f = f
+
+some-writes : (command : ℕ) → 0 < writeCount command
+unfolding writeCount
+some-writes command = split (λ (n : ℕ). 0 < n) (eqb command 0) 4 6 (λ _. omega arith) (λ _. omega arith)
 
 drop-writes : (wp : Bool) (ws : List Write) (k : ℕ) → k < length ws → drop k (writeCycles wp ws) ≡ writeCycle wp (getD ws k noWrite) ∷ drop (suc k) (writeCycles wp ws)
 drop-writes wp [] k h = absurd (not-suc-le-zero h)
@@ -229,3 +234,115 @@ module _ (b : Driver) (accepted : startRefusal (b .part) (b .command) (b .addres
         let c : q + 1 + suc k ≡ q + suc (suc k) = omega arith in
         waiting l q n t (omega arith) most-time (omega arith)
         ∙ ap (led poll) (polling k (l - b .p) (q + 1) n m (not t) (omega arith) (omega arith) (omega arith) (omega arith) (omega arith) ∙ rw c)
+
+    -- N polls, from the driver's first
+    abbrev turns : ℕ
+    turns = pollsOf r (b .command) (b .p)
+
+    all-polls : (n m : ℕ) → n ≡ turns + m
+        → talk (b .part) wp n (polls (moved b Polling 0)) (chip cells (device ReadMode 0 (operationOf r (b .command) (b .address) (b .«data»))))
+        ≡ sent (replicate turns poll) (talk (b .part) wp m (stepOf (moved b Polling turns) shown) rested)
+    unfolding mostPolls
+    all-polls n m fuel = by turns refl
+      where
+        T : ℕ
+        T = timeOf r (b .command)
+
+        by : (k : ℕ) → turns ≡ k
+            → talk (b .part) wp n (polls (moved b Polling 0)) (chip cells (device ReadMode 0 (operationOf r (b .command) (b .address) (b .«data»))))
+            ≡ sent (replicate turns poll) (talk (b .part) wp m (stepOf (moved b Polling turns) shown) rested)
+        by zero e = absurd (omega (arith, positive T (b .p) (valid .some) some-time))
+        by (suc k) e =
+            let c : 0 + suc k ≡ suc k = omega arith in
+            let i : turns - 1 ≡ k = omega arith in
+            let short : k * b .p < T = rw i at (below T (b .p) (valid .some) some-time) in
+            let long : T ≤ suc k * b .p = rw e at (reaches T (b .p) (valid .some)) in
+            polling k T 0 n m true short long (omega arith) (omega arith) (omega arith) ∙ rw (c, e)
+
+    done-whole : length done ≡ r .cells
+    done-whole =
+        let o = operationOf r (b .command) (b .address) (b .«data») in
+        let there = last-there (b .part) known (b .command) (b .address) (b .«data») (valid .asked .target) in
+        complete-length r o cells (rw whole (within-cells (b .part) known o (valid .asked .target .has) there)) ∙ whole
+
+    -- a read at rest shows the value
+    reads : (e : ℕ) → cycleOf (b .part) done freshDevice (cycle e wp (Read at)) ≡ outcome done shown freshDevice
+    unfolding deviceInRange
+    reads e = read-rest (b .part) done known done-whole at at-there freshDevice e wp refl refl refl
+
+    -- ---- the end: bit 7 matches
+    confirming : (q n : ℕ) → 0 < q → q ≤ most b → eqb (bitSeven shown) (bitWanted (b .command) (b .«data»)) ≡ true
+        → talk (b .part) wp (suc n) (stepOf (moved b Polling q) shown) rested
+        ≡ told (cycle 0 wp (Read at) ∷ []) rested (ended (moved b Polling q) (pick (eqb shown (valueWanted r (b .command) (b .«data»))) Done Differs))
+    unfolding pollingOf matches confirmingOf
+    confirming q n some few hit =
+        ap (λ (s : Step). talk (b .part) wp (suc n) s rested) (takes Polling q shown (le-leb q (most b) few) ∙ rw (lt-ltb 0 q some, hit))
+        ∙ (sends (b .part) wp n 0 0 q (moved b Confirming q) (Read at) rested _ (reads 0)
+        ∙ ap (led (cycle 0 wp (Read at)))
+        (ap (λ (s : Step). talk (b .part) wp n s rested)
+        (takes Confirming q shown (rw (lt-ltb 0 q some) (le-leb q (most b) few)) ∙ rw (value-value (r .width) (getD done at 0)) (one-end (eqb shown (valueWanted r (b .command) (b .«data»)))))
+        ∙ rests-told (b .part) wp n _ q _ rested))
+      where
+        one-end : (z : Bool) → pick z (ended (moved b Polling q) Done) (ended (moved b Polling q) Differs) ≡ ended (moved b Polling q) (pick z Done Differs)
+        one-end true = refl
+        one-end false = refl
+
+    -- ---- or it never does, and the driver gives up
+    giving-up : (j q n : ℕ) → 0 < q → q + j ≡ most b → j ≤ n → eqb (bitSeven shown) (bitWanted (b .command) (b .«data»)) ≡ false
+        → talk (b .part) wp n (stepOf (moved b Polling q) shown) rested ≡ sent (replicate j poll) (told [] rested (ended (moved b Polling (most b)) GaveUp))
+    unfolding pollingOf matches
+    giving-up zero q n some all fuel miss =
+        let e : q ≡ most b = omega arith in
+        ap (λ (s : Step). talk (b .part) wp n s rested)
+        (takes Polling q shown (le-leb q (most b) (omega arith)) ∙ rw (lt-ltb 0 q some, miss, le-ltb q (most b) (omega arith)))
+        ∙ (rests-told (b .part) wp n 11 q (moved b GaveUp q) rested ∙ rw e)
+    giving-up (suc j) q zero some all fuel miss = absurd (omega arith)
+    giving-up (suc j) q (suc n) some all fuel miss =
+        ap (λ (s : Step). talk (b .part) wp (suc n) s rested)
+        (takes Polling q shown (le-leb q (most b) (omega arith)) ∙ rw (lt-ltb 0 q some, miss, lt-ltb q (most b) (omega arith)))
+        ∙ (sends (b .part) wp n 0 (b .p) (q + 1) (moved b Polling (q + 1)) (Read at) rested _ (reads (b .p))
+        ∙ ap (led poll) (giving-up j (q + 1) n (omega arith) (omega arith) (omega arith) miss))
+
+    -- ---- from an idle device, at a WP# level that does not protect
+    module _ (d : Device) (rest : idle d ≡ true) (heeded : ignored r wp (b .command) (b .address) ≡ false) where
+      played : play (b .part) (chip cells d) writeList ≡ chip cells (device ReadMode 0 (operationOf r (b .command) (b .address) (b .«data»)))
+      played =
+          let w = idle-is d rest in
+          ap (λ (d : Device). play (b .part) (chip cells d) writeList) (w .0)
+          ∙ command-leads (b .part) known cells whole wp (d .running) (w .1) (b .command) (b .address) (b .«data») (valid .asked .target) heeded .played
+
+      -- the writes, and N polls
+      opening : (n m read : ℕ) → n ≡ writeCount (b .command) + (turns + m)
+          → talk (b .part) wp n (stepOf (moved b Writing 0) read) (chip cells d)
+          ≡ sent writeList (sent (replicate turns poll) (talk (b .part) wp m (stepOf (moved b Polling turns) shown) rested))
+      unfolding driverAt
+      opening n m read fuel =
+          let z : 0 + writeCount (b .command) ≡ writeCount (b .command) = omega arith in
+          (rw (lt-ltb 0 (writeCount (b .command)) (some-writes (b .command))) at (writes-talk (writeCount (b .command)) 0 n (turns + m) read (chip cells d) z fuel))
+          ∙ ap (sent writeList) (rw played (all-polls (turns + m) m refl))
+
+      pub performs : (n read : ℕ) → writeCount (b .command) + turns + 1 ≤ n → eqb (bitSeven shown) (bitWanted (b .command) (b .«data»)) ≡ true
+          → talk (b .part) wp n (stepOf (moved b Writing 0) read) (chip cells d)
+          ≡ told (writeList ++ (replicate turns poll ++ (cycle 0 wp (Read at) ∷ []))) rested
+          (ended (moved b Polling turns) (pick (eqb shown (valueWanted r (b .command) (b .«data»))) Done Differs))
+      unfolding mostPolls
+      performs n read enough hit =
+          let m : ℕ = n - (writeCount (b .command) + turns + 1) in
+          opening n (suc m) read (omega arith)
+          ∙ ap (λ (t : Told). sent writeList (sent (replicate turns poll) t)) (confirming turns m (positive (timeOf r (b .command)) (b .p) (valid .some) some-time) (omega arith) hit)
+
+      pub gives-up : (n read : ℕ) → writeCount (b .command) + turns * 2 ≤ n → eqb (bitSeven shown) (bitWanted (b .command) (b .«data»)) ≡ false
+          → talk (b .part) wp n (stepOf (moved b Writing 0) read) (chip cells d)
+          ≡ told (writeList ++ replicate (turns * 2) poll) rested (ended (moved b Polling (turns * 2)) GaveUp)
+      unfolding mostPolls
+      gives-up n read enough miss =
+          let m : ℕ = n - (writeCount (b .command) + turns) in
+          opening n m read (omega arith)
+          ∙ (ap (λ (t : Told). sent writeList (sent (replicate turns poll) t))
+          (giving-up turns turns m (positive (timeOf r (b .command)) (b .p) (valid .some) some-time) (omega arith) (omega arith) miss)
+          ∙ ap (λ (cs : List Cycle). told (writeList ++ cs) rested (ended (moved b Polling (turns * 2)) GaveUp)) twice)
+        where
+          twice : replicate turns poll ++ (replicate turns poll ++ []) ≡ replicate (turns * 2) poll
+          twice =
+              let e : turns + turns ≡ turns * 2 = omega arith in
+              ap (λ (cs : List Cycle). replicate turns poll ++ cs) (append-nil (replicate turns poll)) ∙ (replicate-append-replicate turns turns poll ∙ rw e)

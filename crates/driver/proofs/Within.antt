@@ -1,17 +1,15 @@
 -- Whatever is replied: how a driver's talk is bounded, that it ends, and that its poll count is that of its polls.
-use Prim.Native.Nat.{ℕ, zero, suc, zero-le, suc-le-suc, _+_, _≤_, _<_}
-use mathlib.Core.Path.{_≡_, refl, sym, ap, _∙_}
-use mathlib.Core.Bool.{Bool, true}
-use mathlib.Core.List.{List, [], _∷_}
+use Prim.Native.Nat.{ℕ, zero, suc, zero-le, suc-le-suc, _+_, _≤_}
+use mathlib.Core.Path.{_≡_, refl, _∙_}
+use mathlib.Core.Bool.{Bool}
+use mathlib.Core.List.{[], _∷_}
 use native.Mathlib.Nat.{le-trans, le-of-suc-le-suc, not-suc-le-zero}
 use native.Mathlib.Omega.{arith}
 use lib.ListN.{length}
-use Rattle.chip.specs.declared.cycle.Cycle.{Cycle}
-use Rattle.driver.specs.declared.machine.Driver.{Driver}
 use Rattle.driver.specs.declared.machine.Next.{Next}
 use Rattle.driver.specs.declared.machine.Next.the-variants.{Nothing, Send}
 use Rattle.driver.specs.declared.machine.Step.{Step}
-use Rattle.driver.specs.Machine.{inRange, stepOf}
+use Rattle.driver.specs.Machine.{stepOf}
 use Rattle.driver.specs.Talk.{cycle, Heard, heardOf, heard, pollsIn}
 use Rattle.driver.proofs.Steps.{leftFrom, left, falls, counts, most, limits, named, Kept, kept}
 
