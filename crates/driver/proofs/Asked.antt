@@ -10,7 +10,7 @@ use Rattle.parts.specs.Width.{fitsIn}
 use Rattle.parts.specs.Table.{rowOf, partRefusal}
 use Rattle.parts.specs.Time.{hasCommand}
 use Rattle.parts.specs.declared.table.Row.{Row}
-use Rattle.parts.proofs.Every.{apart, unless, split}
+use Rattle.parts.proofs.Every.{split}
 use Rattle.driver.specs.Refusals.{dataRefusal, targetRefusal, commandRefusal, startRefusal}
 
 -- a choice that is 0 where one branch is not

@@ -1,4 +1,11 @@
 pub mod Asked
 pub mod Places
 pub mod Ready
+pub mod Steps
+pub mod Within
+pub mod Commands
+pub mod Talks
+pub mod Shown
+pub mod Begins
+pub mod Theorems
 pub mod Determined

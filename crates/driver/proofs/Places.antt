@@ -2,9 +2,8 @@
 use Prim.Native.Nat.{ℕ, zero, suc, _<_}
 use mathlib.Core.Path.{_≡_, refl, ap, _∙_}
 use mathlib.Core.List.{List, [], _∷_, _++_}
-use lib.ListN.{getD, take, replicate}
+use lib.ListN.{getD, replicate}
 use lib.Seq.{getD-take}
-use Rattle.parts.specs.declared.table.Row.{Row}
 use Rattle.driver.specs.declared.writes.Write.{Write}
 use Rattle.driver.specs.declared.writes.Writes.{Writes}
 use Rattle.driver.specs.Writes.{noWrite, sixPlaces, writes}

@@ -1,12 +1,11 @@
 -- What the functions of the driver owe each other: rows of known parts, and counts of states in range.
-use Prim.Native.Nat.{ℕ, zero, suc, zero-le, _*_, _≤_, _<_}
-use mathlib.Core.Path.{_≡_, refl, sym, ap, _∙_}
-use mathlib.Core.Bool.{Bool, true, false}
+use Prim.Native.Nat.{ℕ, zero, suc, zero-le, _≤_, _<_}
+use mathlib.Core.Path.{_≡_}
+use mathlib.Core.Bool.{true}
 use native.Mathlib.Nat.{mul-le-mul-left, mul-one}
 use native.Mathlib.Omega.{arith}
-use borrow.Author.Tests.{ltb-true, eqb-true, eqb-false, eq-eqb}
+use borrow.Author.Tests.{ltb-true, eqb-true}
 use lib.Dec.{eqb}
-use Rattle.parts.specs.Pick.{pick}
 use Rattle.parts.specs.Table.{rowOf, partRefusal}
 use Rattle.parts.specs.Time.{timeOf, roundedUp}
 use Rattle.parts.specs.declared.table.Row.{Row}

@@ -1,14 +1,14 @@
 -- The driver: a machine that hands its state back from each step.
 use Prim.Native.Nat.{ℕ, _+_, _*_, _/_, _%_}
-use mathlib.Core.Bool.{Bool, true, false}
+use mathlib.Core.Bool.{Bool, false}
 use lib.Dec.{eqb, ltb, leb}
 use Rattle.parts.specs.Pick.{pick}
 use Rattle.parts.specs.Width.{valueOf, blankOf}
 use Rattle.parts.specs.Table.{rowOf}
 use Rattle.parts.specs.Time.{pollsOf}
 use Rattle.parts.specs.declared.table.Row.{Row}
-use Rattle.chip.specs.declared.cycle.Action.{Action}
 use Rattle.chip.specs.declared.cycle.Action.the-variants.{Read, Write}
+use Rattle.driver.specs.declared.writes.Write.{Write as Written}
 use Rattle.driver.specs.declared.machine.Phase.{Phase}
 use Rattle.driver.specs.declared.machine.Phase.the-variants.{Writing, Polling, Confirming, Done, GaveUp, Differs}
 use Rattle.driver.specs.declared.machine.Driver.{Driver}
@@ -22,17 +22,30 @@ use Rattle.driver.specs.Writes.{writeCount, nthWrite}
 abbrev pub driver : ℕ → ℕ → ℕ → ℕ → ℕ → Phase → ℕ → Driver
 driver part command a x p f n = record { part = part; command = command; address = a; «data» = x; p = p; phase = f; count = n }
 
+-- ---- what is asked
+-- the operation's address: 0 for chip
+abbrev pub addressOf : ℕ → ℕ → ℕ
+addressOf command a = pick (eqb command 3) 0 a
+
+-- the data that counts: an erase ignores it
+abbrev pub dataOf : ℕ → ℕ → ℕ
+dataOf command x = pick (eqb command 0) x 0
+
+abbrev pub bitSeven : ℕ → ℕ
+bitSeven x = x / 128 % 2
+
+-- bit 7 that ends the polling: the data's, or 1 for an erase
+abbrev pub bitWanted : ℕ → ℕ → ℕ
+bitWanted command x = pick (eqb command 0) (bitSeven x) 1
+
+-- what the confirming read must equal: the data, or blank
+abbrev pub valueWanted : Row → ℕ → ℕ → ℕ
+valueWanted r command x = pick (eqb command 0) x (blankOf (r .width))
+
 -- ---- the start
--- a chip erase ignores the address, an erase the data: 0 is kept
-abbrev pub keptAddress : ℕ → ℕ → ℕ
-keptAddress command a = pick (eqb command 3) 0 a
-
-abbrev pub keptData : ℕ → ℕ → ℕ
-keptData command x = pick (eqb command 0) x 0
-
 -- a driver that has named nothing yet
 abbrev pub begun : ℕ → ℕ → ℕ → ℕ → ℕ → Driver
-begun part command a x p = driver part command (keptAddress command a) (keptData command x) p Writing 0
+begun part command a x p = driver part command (addressOf command a) (dataOf command x) p Writing 0
 
 -- a refused start hands back an all-zero state
 unfoldable pub startOf : ℕ → ℕ → ℕ → ℕ → ℕ → Started
@@ -86,42 +99,28 @@ ending Differs = 12
 abbrev pub ended : Driver → Phase → Step
 ended d f = step (ending f) (moved d f (d .count)) Nothing (d .count)
 
--- the address that is polled and confirmed: the operation's, 0 for chip
-abbrev pub polledAt : Driver → ℕ
-polledAt d = pick (eqb (d .command) 3) 0 (d .address)
-
-abbrev pub bitSeven : ℕ → ℕ
-bitSeven x = x / 128 % 2
-
--- bit 7 that ends the polling: the data's, or 1 for an erase
-abbrev pub bitWanted : Driver → ℕ
-bitWanted d = pick (eqb (d .command) 0) (bitSeven (d .«data»)) 1
-
--- what the confirming read must equal: the data, or blank
-abbrev pub valueWanted : Row → Driver → ℕ
-valueWanted r d = pick (eqb (d .command) 0) (d .«data») (blankOf (r .width))
-
 -- naming the last write goes on to polling
 unfoldable pub afterWrite : Driver → Driver
 afterWrite d = pick (ltb (d .count + 1) (writeCount (d .command))) (moved d Writing (d .count + 1)) (moved d Polling 0)
 
 -- the next write, at 0 µs
+abbrev pub nextWrite : Row → Driver → Written
+nextWrite r d = nthWrite r (d .command) (d .address) (d .«data») (d .count)
+
 unfoldable pub writingOf : Row → Driver → Step
-writingOf r d =
-    step 0 (afterWrite d)
-    (Send 0 (Write (nthWrite r (d .command) (d .address) (d .«data») (d .count) .address) (nthWrite r (d .command) (d .address) (d .«data») (d .count) .«data»))) 0
+writingOf r d = step 0 (afterWrite d) (Send 0 (Write (nextWrite r d .address) (nextWrite r d .«data»))) 0
 
 -- one more poll, p µs after the last cycle
 abbrev pub polls : Driver → Step
-polls d = step 0 (moved d Polling (d .count + 1)) (Send (d .p) (Read (polledAt d))) (d .count + 1)
+polls d = step 0 (moved d Polling (d .count + 1)) (Send (d .p) (Read (addressOf (d .command) (d .address)))) (d .count + 1)
 
 -- the confirming read, at 0 µs
 abbrev pub confirms : Driver → Step
-confirms d = step 0 (moved d Confirming (d .count)) (Send 0 (Read (polledAt d))) (d .count)
+confirms d = step 0 (moved d Confirming (d .count)) (Send 0 (Read (addressOf (d .command) (d .address)))) (d .count)
 
 -- the reply to a poll shows the wanted bit 7
 unfoldable pub matches : Driver → ℕ → Bool
-matches d read = pick (ltb 0 (d .count)) (eqb (bitSeven read) (bitWanted d)) false
+matches d read = pick (ltb 0 (d .count)) (eqb (bitSeven read) (bitWanted (d .command) (d .«data»))) false
 
 -- polls until bit 7 matches, and gives up after 2N
 unfoldable pub pollingOf : Row → Driver → ℕ → Step
@@ -131,7 +130,7 @@ pollingOf r d read =
     (ended d GaveUp))
 
 unfoldable pub confirmingOf : Row → Driver → ℕ → Step
-confirmingOf r d read = pick (eqb (valueOf (r .width) read) (valueWanted r d)) (ended d Done) (ended d Differs)
+confirmingOf r d read = pick (eqb (valueOf (r .width) read) (valueWanted r (d .command) (d .«data»))) (ended d Done) (ended d Differs)
 
 abbrev pub phaseOf : Row → Phase → Driver → ℕ → Step
 phaseOf r Writing d read = writingOf r d

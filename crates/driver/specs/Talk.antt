@@ -1,18 +1,26 @@
 -- A driver against the model of the chip, and against any replies.
 use Prim.Native.Nat.{ℕ, zero, suc, _+_}
-use mathlib.Core.Bool.{Bool}
+use mathlib.Core.Bool.{Bool, true}
 use mathlib.Core.List.{List, [], _∷_, map}
 use lib.Dec.{ltb}
+use lib.ListN.{getD}
 use Rattle.parts.specs.Pick.{pick}
+use Rattle.parts.specs.Width.{valueOf}
+use Rattle.parts.specs.Time.{timeOf}
+use Rattle.parts.specs.declared.table.Row.{Row}
+use Rattle.chip.specs.declared.device.Operation.{Operation}
 use Rattle.chip.specs.declared.cycle.Action.{Action}
 use Rattle.chip.specs.declared.cycle.Action.the-variants.{Read, Write, Idle, Cut}
 use Rattle.chip.specs.declared.cycle.Cycle.{Cycle}
+use Rattle.chip.specs.Device.{operation}
+use Rattle.chip.specs.Operation.{completeOn}
 use Rattle.chip.specs.Cycle.{Chip, cycleOf}
 use Rattle.chip.specs.Trace.{after}
 use Rattle.driver.specs.declared.writes.Write.{Write as Written}
 use Rattle.driver.specs.declared.machine.Next.the-variants.{Nothing, Send}
 use Rattle.driver.specs.declared.machine.Step.{Step}
-use Rattle.driver.specs.Machine.{stepOf}
+use Rattle.driver.specs.Writes.{lastWrite}
+use Rattle.driver.specs.Machine.{addressOf, stepOf}
 
 abbrev pub cycle : ℕ → Bool → Action → Cycle
 cycle e wp a = record { elapsed = e; wp = wp; action = a }
@@ -23,6 +31,18 @@ writeCycle wp w = cycle 0 wp (Write (w .address) (w .«data»))
 
 abbrev pub writeCycles : Bool → List Written → List Cycle
 writeCycles wp ws = map (writeCycle wp) ws
+
+-- the operation that a command's last write starts, with its table time left
+abbrev pub operationOf : Row → ℕ → ℕ → ℕ → Operation
+operationOf r command a x = operation command (lastWrite r command a x .address) (lastWrite r command a x .«data») (timeOf r command) true
+
+-- the cells once it has completed
+abbrev pub completed : Row → ℕ → ℕ → ℕ → List ℕ → List ℕ
+completed r command a x cells = completeOn r (operationOf r command a x) cells
+
+-- the value at the polled address then
+abbrev pub shownAfter : Row → ℕ → ℕ → ℕ → List ℕ → ℕ
+shownAfter r command a x cells = valueOf (r .width) (getD (completed r command a x cells) (addressOf command a) 0)
 
 -- ---- against the model
 -- the cycles sent, the chip that they left, and the step that stands: where it names nothing, the end

@@ -6,7 +6,7 @@ use chip::Action;
 use parts::Row;
 ghost use mathlib.Core.Path.{_≡_};
 ghost use Prim.Native.Nat.{_<_, _≤_};
-ghost use Rattle.driver.specs.Machine.{afterWrite, bitSeven, bitWanted, confirmingOf, confirms, countFits, driver, inRange, keptAddress, keptData, matches, mostPolls, moved, polledAt, pollingOf, polls, someUpTo, startOf, step, stepOf, valueWanted, writingOf};
+ghost use Rattle.driver.specs.Machine.{addressOf, afterWrite, bitSeven, bitWanted, confirmingOf, confirms, countFits, dataOf, driver, inRange, matches, mostPolls, moved, pollingOf, polls, someUpTo, startOf, step, stepOf, valueWanted, writingOf};
 ghost use Rattle.driver.specs.Usual.{Usual};
 ghost use Rattle.driver.specs.Writes.{writeCount};
 
@@ -53,9 +53,9 @@ pub struct Step {
     pub polls: u32,
 }
 
-// The address that a start keeps: 0 for chip.
-fn kept_address(command: u32, address: u32) -> u32
-    ensures { λ r. ⌜ r ≡ keptAddress command address ⌝ }
+// The operation's address: 0 for chip.
+fn address_of(command: u32, address: u32) -> u32
+    ensures { λ r. ⌜ r ≡ addressOf command address ⌝ }
 {
     if command == 3 {
         return 0;
@@ -63,14 +63,42 @@ fn kept_address(command: u32, address: u32) -> u32
     address
 }
 
-// The data that a start keeps: 0 for an erase.
-fn kept_data(command: u32, data: u16) -> u16
-    ensures { λ r. ⌜ r ≡ keptData command «data» ⌝ }
+// The data that counts: an erase ignores it.
+fn data_of(command: u32, data: u16) -> u16
+    ensures { λ r. ⌜ r ≡ dataOf command «data» ⌝ }
 {
     if command == 0 {
         return data;
     }
     0
+}
+
+// Bit 7.
+fn bit_seven(x: u16) -> u16
+    ensures { λ r. ⌜ r ≡ bitSeven x ⌝ }
+{
+    x / 128 % 2
+}
+
+// The bit 7 that ends the polling.
+fn bit_wanted(command: u32, data: u16) -> u16
+    ensures { λ r. ⌜ r ≡ bitWanted command «data» ⌝ }
+{
+    if command == 0 {
+        return bit_seven(data);
+    }
+    1
+}
+
+// What the confirming read must equal.
+fn value_wanted(row: Row, command: u32, data: u16) -> u16
+    requires { ⌜ row .width ≤ 16 ⌝ }
+    ensures { λ r. ⌜ r ≡ valueWanted row command «data» ⌝ }
+{
+    if command == 0 {
+        return data;
+    }
+    parts::blank(row.width)
 }
 
 // A driver that has named nothing yet.
@@ -99,8 +127,8 @@ pub fn start(part: u32, command: u32, address: u32, data: u16, p: u32) -> Starte
             driver: begin(0, 0, 0, 0, 0),
         };
     }
-    let a = kept_address(command, address);
-    let x = kept_data(command, data);
+    let a = address_of(command, address);
+    let x = data_of(command, data);
     Started {
         answer: 0,
         driver: begin(part, command, a, x, p),
@@ -137,13 +165,6 @@ fn count_fits(phase: Phase, w: u32, m: u32, n: u32) -> bool
         Phase::GaveUp => n == m,
         Phase::Differs => some_up_to(m, n),
     }
-}
-
-// Bit 7.
-fn bit_seven(x: u16) -> u16
-    ensures { λ r. ⌜ r ≡ bitSeven x ⌝ }
-{
-    x / 128 % 2
 }
 
 impl Driver {
@@ -190,37 +211,6 @@ impl Driver {
         }
     }
 
-    // The address that is polled and confirmed.
-    fn polled_at(self) -> u32
-        ensures { λ r. ⌜ r ≡ polledAt self ⌝ }
-    {
-        if self.command == 3 {
-            return 0;
-        }
-        self.address
-    }
-
-    // The bit 7 that ends the polling.
-    fn bit_wanted(self) -> u16
-        ensures { λ r. ⌜ r ≡ bitWanted self ⌝ }
-    {
-        if self.command == 0 {
-            return bit_seven(self.data);
-        }
-        1
-    }
-
-    // What the confirming read must equal, as a word.
-    fn value_wanted(self, row: Row) -> u16
-        requires { ⌜ row .width ≤ 16 ⌝ }
-        ensures { λ r. ⌜ r ≡ valueWanted row self ⌝ }
-    {
-        if self.command == 0 {
-            return self.data;
-        }
-        parts::blank(row.width)
-    }
-
     // The driver once it has named a write.
     fn after_write(self) -> Driver
         requires { ⌜ self .count < writeCount (self .command) ⌝ }
@@ -255,7 +245,7 @@ impl Driver {
         ensures { λ r. ⌜ r ≡ polls self ⌝ }
     {
         let n = self.count + 1;
-        let action = Action::Read(self.polled_at());
+        let action = Action::Read(address_of(self.command, self.address));
         Step {
             answer: 0,
             driver: self.moved_to(Phase::Polling, n),
@@ -269,7 +259,7 @@ impl Driver {
         ensures { λ r. ⌜ r ≡ confirms self ⌝ }
     {
         let n = self.count;
-        let action = Action::Read(self.polled_at());
+        let action = Action::Read(address_of(self.command, self.address));
         Step {
             answer: 0,
             driver: self.moved_to(Phase::Confirming, n),
@@ -283,7 +273,7 @@ impl Driver {
         ensures { λ r. ⌜ r ≡ matches self read ⌝ }
     {
         if 0 < self.count {
-            return bit_seven(read) == self.bit_wanted();
+            return bit_seven(read) == bit_wanted(self.command, self.data);
         }
         false
     }
@@ -307,7 +297,7 @@ impl Driver {
         requires { ⌜ row .width ≤ 16 ⌝ }
         ensures { λ r. ⌜ r ≡ confirmingOf row self read ⌝ }
     {
-        if parts::value(row.width, read) == self.value_wanted(row) {
+        if parts::value(row.width, read) == value_wanted(row, self.command, self.data) {
             return self.end(Phase::Done, 0);
         }
         self.end(Phase::Differs, 12)

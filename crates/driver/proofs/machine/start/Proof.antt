@@ -17,11 +17,11 @@ returns : tie.Need-returns
 unfolding startOf
 returns c = simp (sym (c .before .before .start-refusal .ensures), ne-eqb (c .before .before .start-refusal .result) 0 (λ z. omega arith), c .begin .ensures)
 
-kept-address-requires : tie.Need-kept-address-requires
-kept-address-requires c κs = search needs
+address-of-requires : tie.Need-address-of-requires
+address-of-requires c κs = search needs
 
-kept-data-requires : tie.Need-kept-data-requires
-kept-data-requires c κs = search needs
+data-of-requires : tie.Need-data-of-requires
+data-of-requires c κs = search needs
 
 begin-requires-2 : tie.Need-begin-requires-2
 begin-requires-2 c κs = search needs
@@ -29,7 +29,7 @@ begin-requires-2 c κs = search needs
 returns-2 : tie.Need-returns-2
 unfolding startOf
 returns-2 c = let z : c .before .before .before .before .start-refusal .result ≡ 0 = omega arith in
-    simp (sym (c .before .before .before .before .start-refusal .ensures), eq-eqb _ _ z, c .begin2 .ensures, c .before .before .kept-address .ensures, c .before .kept-data .ensures)
+    simp (sym (c .before .before .before .before .start-refusal .ensures), eq-eqb _ _ z, c .begin2 .ensures, c .before .before .address-of .ensures, c .before .data-of .ensures)
 
 pub start-spec : {M : Type 1} → statement M
 start-spec =
@@ -38,7 +38,7 @@ start-spec =
     start-refusal-requires
     begin-requires
     returns
-    kept-address-requires
-    kept-data-requires
+    address-of-requires
+    data-of-requires
     begin-requires-2
     returns-2)

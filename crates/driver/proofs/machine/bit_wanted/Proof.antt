@@ -1,8 +1,8 @@
--- `driver::machine::Driver::bit_wanted` meets its contract.
+-- `driver::machine::bit_wanted` meets its contract.
 use borrow.Author.Needs.{needs}
 use Rattle.parts.proofs.Rules.{tests}
-use Rattle.driver.proofs.machine.Driver.bit_wanted.Statement.{statement}
-use Rattle.driver.proofs.machine.Driver.bit_wanted.Tie as tie
+use Rattle.driver.proofs.machine.bit_wanted.Statement.{statement}
+use Rattle.driver.proofs.machine.bit_wanted.Tie as tie
 
 bit-seven-requires : tie.Need-bit-seven-requires
 bit-seven-requires c κs = search needs

@@ -1,0 +1,348 @@
+-- A driver's talk with the model: the writes, the polls while the operation runs and once it has completed, and the end.
+use Prim.Native.Nat.{ℕ, zero, suc, zero-le, _+_, _-_, _*_, _/_, _%_, _≤_, _<_}
+use mathlib.Core.Path.{_≡_, refl, ap, _∙_}
+use mathlib.Core.Bool.{Bool, true, false, not}
+use mathlib.Core.List.{List, [], _∷_, _++_, append-nil}
+use native.Mathlib.Nat.{suc-mul, one-mul, zero-mul, not-suc-le-zero, le-of-suc-le-suc}
+use native.Mathlib.Numerals.{add-one}
+use native.Mathlib.Omega.{arith}
+use borrow.Author.Tests.{lt-ltb, le-ltb, le-leb, ne-eqb, eqb-false}
+use lib.Dec.{eqb, ltb}
+use lib.ListN.{length, getD, drop, replicate, replicate-append-replicate}
+use Rattle.parts.specs.Pick.{pick}
+use Rattle.parts.specs.Width.{valueOf}
+use Rattle.parts.specs.Table.{rowOf, partRefusal}
+use Rattle.parts.specs.Time.{timeOf, pollsOf}
+use Rattle.parts.specs.declared.table.Row.{Row}
+use Rattle.parts.proofs.Every.{split}
+use Rattle.parts.proofs.Values.{value-value}
+use Rattle.parts.proofs.Sound.{cells-some, time-some}
+use Rattle.parts.proofs.Rounding.{reaches, below, positive}
+use Rattle.chip.specs.declared.device.Mode.the-variants.{ReadMode}
+use Rattle.chip.specs.declared.device.Operation.{Operation}
+use Rattle.chip.specs.declared.device.Device.{Device}
+use Rattle.chip.specs.declared.cycle.Action.{Action}
+use Rattle.chip.specs.declared.cycle.Action.the-variants.{Read}
+use Rattle.chip.specs.declared.cycle.Cycle.{Cycle}
+use Rattle.chip.specs.Device.{operation, device, freshDevice, idle, inRange as deviceInRange}
+use Rattle.chip.specs.Operation.{cellsOf, completeOn}
+use Rattle.chip.specs.Sequence.{ignored}
+use Rattle.chip.specs.Cycle.{Chip, chip, Outcome, outcome, cycleOf, status, bit6}
+use Rattle.chip.specs.Trace.{leaves, after, play}
+use Rattle.chip.proofs.Accepted.{Valid, within-cells}
+use Rattle.chip.proofs.Settled.{complete-length}
+use Rattle.chip.proofs.Cases.{read-rest, read-busy, read-done}
+use Rattle.driver.specs.declared.writes.Write.{Write}
+use Rattle.driver.specs.declared.machine.Phase.{Phase}
+use Rattle.driver.specs.declared.machine.Phase.the-variants.{Writing, Polling, Confirming, Done, GaveUp, Differs}
+use Rattle.driver.specs.declared.machine.Driver.{Driver}
+use Rattle.driver.specs.declared.machine.Next.the-variants.{Nothing, Send}
+use Rattle.driver.specs.declared.machine.Step.{Step}
+use Rattle.driver.specs.Refusals.{startRefusal}
+use Rattle.driver.specs.Writes.{write, noWrite, lastWrite, writesOf, writeCount, nthWrite}
+use Rattle.driver.specs.Machine.{mostPolls, countFits, inRange, moved, step, ended, addressOf, bitSeven, bitWanted, valueWanted, afterWrite, writingOf, polls, matches, pollingOf, confirmingOf, phaseOf, stepOf}
+use Rattle.driver.specs.Talk.{cycle, writeCycle, writeCycles, operationOf, Told, told, led, talk}
+use Rattle.driver.proofs.Asked.{Begun, begun}
+use Rattle.driver.proofs.Steps.{goes, most}
+use Rattle.driver.proofs.Commands.{idle-is, command-le, last-there, last-fits, command-leads}
+
+-- cycles in front of a talk
+abbrev pub sent : List Cycle → Told → Told
+sent cs t = told (cs ++ t .cycles) (t .chip) (t .last)
+
+-- as many writes as are counted
+pub write-length : (r : Row) (command a x : ℕ) → length (writesOf r command a x) ≡ writeCount command
+unfolding writesOf writeCount
+write-length r command a x = by (eqb command 0) _ _ refl refl
+  where
+    by : (b : Bool) (ws vs : List Write) → length ws ≡ 4 → length vs ≡ 6 → length (pick b ws vs) ≡ pick b 4 6
+    by true ws vs e f = e
+    by false ws vs e f = f
+
+some-writes : (command : ℕ) → 0 < writeCount command
+unfolding writeCount
+some-writes command = split (λ (n : ℕ). 0 < n) (eqb command 0) 4 6 (λ _. omega arith) (λ _. omega arith)
+
+drop-writes : (wp : Bool) (ws : List Write) (k : ℕ) → k < length ws → drop k (writeCycles wp ws) ≡ writeCycle wp (getD ws k noWrite) ∷ drop (suc k) (writeCycles wp ws)
+drop-writes wp [] k h = absurd (not-suc-le-zero h)
+drop-writes wp (w ∷ ws) zero h = refl
+drop-writes wp (w ∷ ws) (suc k) h = drop-writes wp ws k (le-of-suc-le-suc h)
+
+drop-done : (wp : Bool) (ws : List Write) (k : ℕ) → length ws ≤ k → drop k (writeCycles wp ws) ≡ []
+drop-done wp [] zero h = refl
+drop-done wp [] (suc k) h = refl
+drop-done wp (w ∷ ws) zero h = absurd (not-suc-le-zero h)
+drop-done wp (w ∷ ws) (suc k) h = drop-done wp ws k (le-of-suc-le-suc h)
+
+-- ---- a talk, turn by turn
+module _ (part : ℕ) (wp : Bool) where
+  sends : (n k e q : ℕ) (d : Driver) (a : Action) (h : Chip) (o : Outcome) → cycleOf part (h .cells) (h .device) (cycle e wp a) ≡ o
+      → talk part wp (suc n) (step k d (Send e a) q) h ≡ led (cycle e wp a) (talk part wp n (stepOf d (o .reply .value)) (leaves o))
+  unfolding talk after
+  sends n k e q d a h o eq = ap (λ (o : Outcome). led (cycle e wp a) (talk part wp n (stepOf d (o .reply .value)) (leaves o))) eq
+
+  rests-told : (n k q : ℕ) (d : Driver) (h : Chip) → talk part wp n (step k d Nothing q) h ≡ told [] h (step k d Nothing q)
+  unfolding talk
+  rests-told zero k q d h = refl
+  rests-told (suc n) k q d h = refl
+
+-- ---- a driver whose start is accepted
+module _ (b : Driver) (accepted : startRefusal (b .part) (b .command) (b .address) (b .«data») (b .p) ≡ 0) (wp : Bool) where
+  abbrev r : Row
+  r = rowOf (b .part)
+
+  valid : Begun (b .part) (b .command) (b .address) (b .«data») (b .p)
+  valid = begun (b .part) (b .command) (b .address) (b .«data») (b .p) accepted
+
+  known : partRefusal (b .part) ≡ 0
+  known = valid .asked .known
+
+  few-commands : b .command ≤ 3
+  few-commands = command-le r (b .command) (valid .asked .target .has)
+
+  some-time : 0 < timeOf r (b .command)
+  some-time = time-some (b .part) known (b .command) few-commands
+
+  some-polls : 0 < most b
+  unfolding mostPolls
+  some-polls = omega (arith, positive (timeOf r (b .command)) (b .p) (valid .some) some-time)
+
+  -- its step in each phase
+  takes : (f : Phase) (n read : ℕ) → countFits f (writeCount (b .command)) (most b) n ≡ true → stepOf (moved b f n) read ≡ phaseOf r f (moved b f n) read
+  unfolding inRange
+  takes f n read c = goes (moved b f n) read (rw accepted c)
+
+  -- ---- the writes
+  abbrev writeList : List Cycle
+  writeList = writeCycles wp (writesOf r (b .command) (b .address) (b .«data»))
+
+  -- the driver after k writes
+  driverAt : ℕ → Driver
+  driverAt k = pick (ltb k (writeCount (b .command))) (moved b Writing k) (moved b Polling 0)
+
+  first-poll : (read : ℕ) → stepOf (moved b Polling 0) read ≡ polls (moved b Polling 0)
+  unfolding pollingOf matches
+  first-poll read = takes Polling 0 read (le-leb 0 (most b) zero-le) ∙ rw (lt-ltb 0 (most b) some-polls)
+
+  write-step : (k read : ℕ) → k < writeCount (b .command)
+      → stepOf (moved b Writing k) read ≡ step 0 (driverAt (suc k)) (Send 0 (writeCycle wp (nthWrite r (b .command) (b .address) (b .«data») k) .action)) 0
+  unfolding writingOf afterWrite driverAt
+  write-step k read h = takes Writing k read (lt-ltb k (writeCount (b .command)) h) ∙ rw (add-one k)
+
+  writes-talk : (j k n m read : ℕ) (h : Chip) → k + j ≡ writeCount (b .command) → n ≡ j + m
+      → talk (b .part) wp n (stepOf (driverAt k) read) h
+      ≡ sent (drop k writeList) (talk (b .part) wp m (polls (moved b Polling 0)) (play (b .part) h (drop k writeList)))
+  unfolding driverAt after
+  writes-talk zero k n m read h e q =
+      let w : writeCount (b .command) ≤ k = omega arith in
+      let s : n ≡ m = omega arith in
+      rw (le-ltb k (writeCount (b .command)) w, first-poll read, drop-done wp (writesOf r (b .command) (b .address) (b .«data»)) k (rw write-length w), s)
+  writes-talk (suc j) k zero m read h e q = absurd (omega arith)
+  writes-talk (suc j) k (suc n) m read h e q =
+      let l : k < writeCount (b .command) = omega arith in
+      let w = nthWrite r (b .command) (b .address) (b .«data») k in
+      rw (lt-ltb k (writeCount (b .command)) l, write-step k read l, drop-writes wp (writesOf r (b .command) (b .address) (b .«data»)) k (rw write-length l))
+      (sends (b .part) wp n 0 0 0 (driverAt (suc k)) (writeCycle wp w .action) h _ refl
+      ∙ ap (led (writeCycle wp w)) (writes-talk j (suc k) n m _ _ (omega arith) (omega arith)))
+
+  -- ---- the polls
+  abbrev at : ℕ
+  at = addressOf (b .command) (b .address)
+
+  abbrev poll : Cycle
+  poll = cycle (b .p) wp (Read at)
+
+  -- the operation, with so much time left and this bit 6 to come
+  abbrev running : ℕ → Bool → Operation
+  running l t =
+      operation (b .command) (lastWrite r (b .command) (b .address) (b .«data») .address) (lastWrite r (b .command) (b .address) (b .«data») .«data») l t
+
+  running-valid : (l : ℕ) (t : Bool) → l ≤ timeOf r (b .command) → Valid r (device ReadMode 0 (running l t))
+  running-valid l t h =
+      record {
+        command = valid .asked .target .has;
+        time = h;
+        there = last-there (b .part) known (b .command) (b .address) (b .«data») (valid .asked .target);
+        fits = last-fits (b .part) known (b .command) (b .address) (b .«data») (valid .asked .target);
+        stage = refl;
+        mode = refl;
+      }
+
+  at-there : at < r .cells
+  at-there =
+      split (λ (n : ℕ). n < r .cells) (eqb (b .command) 3) 0 (b .address) (λ _. cells-some (b .part) known) (λ n. valid .asked .target .there (eqb-false (b .command) 3 n))
+
+  -- bit 7 of a busy read does not match
+  busy-differs : (l : ℕ) (t : Bool) → bitSeven (status (running l t)) ≡ bitWanted (b .command) (b .«data») → ⊥
+  unfolding lastWrite
+  busy-differs l t = by (eqb (b .command) 0) _
+    where
+      six : bit6 (running l t) ≤ 1
+      six = split (λ (n : ℕ). n ≤ 1) t 1 0 (λ _. omega arith) (λ _. omega arith)
+
+      by : (z : Bool) (ws : Write)
+          → bitSeven (pick z (1 - pick z (write (b .address) (b .«data»)) ws .«data» / 128 % 2) 0 * 128 + bit6 (running l t) * 64) ≡ pick z (bitSeven (b .«data»)) 1 → ⊥
+      by true ws e = omega (arith, six)
+      by false ws e = omega (arith, six)
+
+  -- the cells once it has completed, and what a read at the address shows then
+  module _ (cells : List ℕ) (whole : length cells ≡ r .cells) where
+    abbrev done : List ℕ
+    done = completeOn r (operationOf r (b .command) (b .address) (b .«data»)) cells
+
+    abbrev shown : ℕ
+    shown = valueOf (r .width) (getD done at 0)
+
+    abbrev rested : Chip
+    rested = chip done freshDevice
+
+    -- what completes does not hang on the time left, nor on bit 6
+    same-done : (l : ℕ) (t : Bool) → completeOn r (running l t) cells ≡ done
+    unfolding completeOn cellsOf
+    same-done l t = refl
+
+    waiting : (l q n : ℕ) (t : Bool) → b .p < l → l ≤ timeOf r (b .command) → q + 1 < most b
+        → talk (b .part) wp (suc n) (polls (moved b Polling q)) (chip cells (device ReadMode 0 (running l t)))
+        ≡ led poll (talk (b .part) wp n (polls (moved b Polling (q + 1))) (chip cells (device ReadMode 0 (running (l - b .p) (not t)))))
+    unfolding pollingOf matches
+    waiting l q n t early most-time more =
+        sends (b .part) wp n 0 (b .p) (q + 1) (moved b Polling (q + 1)) (Read at) (chip cells (device ReadMode 0 (running l t))) _
+        (read-busy (b .part) cells known whole at at-there (running l t) (b .p) wp (running-valid l t most-time) early)
+        ∙ ap (λ (s : Step). led poll (talk (b .part) wp n s (chip cells (device ReadMode 0 (running (l - b .p) (not t))))))
+        (takes Polling (q + 1) (status (running l t)) (le-leb (q + 1) (most b) (omega arith))
+        ∙ rw (lt-ltb 0 (q + 1) (omega arith), ne-eqb (bitSeven (status (running l t))) (bitWanted (b .command) (b .«data»)) (busy-differs l t), lt-ltb (q + 1) (most b) more))
+
+    completing : (l q n : ℕ) (t : Bool) → 0 < l → l ≤ b .p → l ≤ timeOf r (b .command)
+        → talk (b .part) wp (suc n) (polls (moved b Polling q)) (chip cells (device ReadMode 0 (running l t)))
+        ≡ led poll (talk (b .part) wp n (stepOf (moved b Polling (q + 1)) shown) rested)
+    completing l q n t some late most-time =
+        sends (b .part) wp n 0 (b .p) (q + 1) (moved b Polling (q + 1)) (Read at) (chip cells (device ReadMode 0 (running l t))) _
+        (read-done (b .part) cells known whole at at-there (running l t) (b .p) wp (running-valid l t most-time) some late)
+        ∙ ap (λ (xs : List ℕ). led poll (talk (b .part) wp n (stepOf (moved b Polling (q + 1)) (valueOf (r .width) (getD xs at 0))) (chip xs freshDevice))) (same-done l t)
+
+    -- k polls come too early, and one more does not
+    polling : (k l q n m : ℕ) (t : Bool) → k * b .p < l → l ≤ suc k * b .p → l ≤ timeOf r (b .command) → q + suc k ≤ most b → n ≡ suc k + m
+        → talk (b .part) wp n (polls (moved b Polling q)) (chip cells (device ReadMode 0 (running l t)))
+        ≡ sent (replicate (suc k) poll) (talk (b .part) wp m (stepOf (moved b Polling (q + suc k)) shown) rested)
+    polling k l q zero m t early enough most-time within fuel = absurd (omega arith)
+    polling zero l q (suc n) m t early enough most-time within fuel =
+        let e : n ≡ m = omega arith in
+        completing l q n t (omega (arith, zero-mul (b .p))) (omega (arith, one-mul (b .p))) most-time ∙ rw e
+    polling (suc k) l q (suc n) m t early enough most-time within fuel =
+        let e : suc k * b .p ≡ k * b .p + b .p = suc-mul k (b .p) in
+        let e′ : suc (suc k) * b .p ≡ suc k * b .p + b .p = suc-mul (suc k) (b .p) in
+        let c : q + 1 + suc k ≡ q + suc (suc k) = omega arith in
+        waiting l q n t (omega arith) most-time (omega arith)
+        ∙ ap (led poll) (polling k (l - b .p) (q + 1) n m (not t) (omega arith) (omega arith) (omega arith) (omega arith) (omega arith) ∙ rw c)
+
+    -- N polls, from the driver's first
+    abbrev turns : ℕ
+    turns = pollsOf r (b .command) (b .p)
+
+    all-polls : (n m : ℕ) → n ≡ turns + m
+        → talk (b .part) wp n (polls (moved b Polling 0)) (chip cells (device ReadMode 0 (operationOf r (b .command) (b .address) (b .«data»))))
+        ≡ sent (replicate turns poll) (talk (b .part) wp m (stepOf (moved b Polling turns) shown) rested)
+    unfolding mostPolls
+    all-polls n m fuel = by turns refl
+      where
+        T : ℕ
+        T = timeOf r (b .command)
+
+        by : (k : ℕ) → turns ≡ k
+            → talk (b .part) wp n (polls (moved b Polling 0)) (chip cells (device ReadMode 0 (operationOf r (b .command) (b .address) (b .«data»))))
+            ≡ sent (replicate turns poll) (talk (b .part) wp m (stepOf (moved b Polling turns) shown) rested)
+        by zero e = absurd (omega (arith, positive T (b .p) (valid .some) some-time))
+        by (suc k) e =
+            let c : 0 + suc k ≡ suc k = omega arith in
+            let i : turns - 1 ≡ k = omega arith in
+            let short : k * b .p < T = rw i at (below T (b .p) (valid .some) some-time) in
+            let long : T ≤ suc k * b .p = rw e at (reaches T (b .p) (valid .some)) in
+            polling k T 0 n m true short long (omega arith) (omega arith) (omega arith) ∙ rw (c, e)
+
+    done-whole : length done ≡ r .cells
+    done-whole =
+        let o = operationOf r (b .command) (b .address) (b .«data») in
+        let there = last-there (b .part) known (b .command) (b .address) (b .«data») (valid .asked .target) in
+        complete-length r o cells (rw whole (within-cells (b .part) known o (valid .asked .target .has) there)) ∙ whole
+
+    -- a read at rest shows the value
+    reads : (e : ℕ) → cycleOf (b .part) done freshDevice (cycle e wp (Read at)) ≡ outcome done shown freshDevice
+    unfolding deviceInRange
+    reads e = read-rest (b .part) done known done-whole at at-there freshDevice e wp refl refl refl
+
+    -- ---- the end: bit 7 matches
+    confirming : (q n : ℕ) → 0 < q → q ≤ most b → eqb (bitSeven shown) (bitWanted (b .command) (b .«data»)) ≡ true
+        → talk (b .part) wp (suc n) (stepOf (moved b Polling q) shown) rested
+        ≡ told (cycle 0 wp (Read at) ∷ []) rested (ended (moved b Polling q) (pick (eqb shown (valueWanted r (b .command) (b .«data»))) Done Differs))
+    unfolding pollingOf matches confirmingOf
+    confirming q n some few hit =
+        ap (λ (s : Step). talk (b .part) wp (suc n) s rested) (takes Polling q shown (le-leb q (most b) few) ∙ rw (lt-ltb 0 q some, hit))
+        ∙ (sends (b .part) wp n 0 0 q (moved b Confirming q) (Read at) rested _ (reads 0)
+        ∙ ap (led (cycle 0 wp (Read at)))
+        (ap (λ (s : Step). talk (b .part) wp n s rested)
+        (takes Confirming q shown (rw (lt-ltb 0 q some) (le-leb q (most b) few)) ∙ rw (value-value (r .width) (getD done at 0)) (one-end (eqb shown (valueWanted r (b .command) (b .«data»)))))
+        ∙ rests-told (b .part) wp n _ q _ rested))
+      where
+        one-end : (z : Bool) → pick z (ended (moved b Polling q) Done) (ended (moved b Polling q) Differs) ≡ ended (moved b Polling q) (pick z Done Differs)
+        one-end true = refl
+        one-end false = refl
+
+    -- ---- or it never does, and the driver gives up
+    giving-up : (j q n : ℕ) → 0 < q → q + j ≡ most b → j ≤ n → eqb (bitSeven shown) (bitWanted (b .command) (b .«data»)) ≡ false
+        → talk (b .part) wp n (stepOf (moved b Polling q) shown) rested ≡ sent (replicate j poll) (told [] rested (ended (moved b Polling (most b)) GaveUp))
+    unfolding pollingOf matches
+    giving-up zero q n some all fuel miss =
+        let e : q ≡ most b = omega arith in
+        ap (λ (s : Step). talk (b .part) wp n s rested)
+        (takes Polling q shown (le-leb q (most b) (omega arith)) ∙ rw (lt-ltb 0 q some, miss, le-ltb q (most b) (omega arith)))
+        ∙ (rests-told (b .part) wp n 11 q (moved b GaveUp q) rested ∙ rw e)
+    giving-up (suc j) q zero some all fuel miss = absurd (omega arith)
+    giving-up (suc j) q (suc n) some all fuel miss =
+        ap (λ (s : Step). talk (b .part) wp (suc n) s rested)
+        (takes Polling q shown (le-leb q (most b) (omega arith)) ∙ rw (lt-ltb 0 q some, miss, lt-ltb q (most b) (omega arith)))
+        ∙ (sends (b .part) wp n 0 (b .p) (q + 1) (moved b Polling (q + 1)) (Read at) rested _ (reads (b .p))
+        ∙ ap (led poll) (giving-up j (q + 1) n (omega arith) (omega arith) (omega arith) miss))
+
+    -- ---- from an idle device, at a WP# level that does not protect
+    module _ (d : Device) (rest : idle d ≡ true) (heeded : ignored r wp (b .command) (b .address) ≡ false) where
+      played : play (b .part) (chip cells d) writeList ≡ chip cells (device ReadMode 0 (operationOf r (b .command) (b .address) (b .«data»)))
+      played =
+          let w = idle-is d rest in
+          ap (λ (d : Device). play (b .part) (chip cells d) writeList) (w .0)
+          ∙ command-leads (b .part) known cells whole wp (d .running) (w .1) (b .command) (b .address) (b .«data») (valid .asked .target) heeded .played
+
+      -- the writes, and N polls
+      opening : (n m read : ℕ) → n ≡ writeCount (b .command) + (turns + m)
+          → talk (b .part) wp n (stepOf (moved b Writing 0) read) (chip cells d)
+          ≡ sent writeList (sent (replicate turns poll) (talk (b .part) wp m (stepOf (moved b Polling turns) shown) rested))
+      unfolding driverAt
+      opening n m read fuel =
+          let z : 0 + writeCount (b .command) ≡ writeCount (b .command) = omega arith in
+          (rw (lt-ltb 0 (writeCount (b .command)) (some-writes (b .command))) at (writes-talk (writeCount (b .command)) 0 n (turns + m) read (chip cells d) z fuel))
+          ∙ ap (sent writeList) (rw played (all-polls (turns + m) m refl))
+
+      pub performs : (n read : ℕ) → writeCount (b .command) + turns + 1 ≤ n → eqb (bitSeven shown) (bitWanted (b .command) (b .«data»)) ≡ true
+          → talk (b .part) wp n (stepOf (moved b Writing 0) read) (chip cells d)
+          ≡ told (writeList ++ (replicate turns poll ++ (cycle 0 wp (Read at) ∷ []))) rested
+          (ended (moved b Polling turns) (pick (eqb shown (valueWanted r (b .command) (b .«data»))) Done Differs))
+      unfolding mostPolls
+      performs n read enough hit =
+          let m : ℕ = n - (writeCount (b .command) + turns + 1) in
+          opening n (suc m) read (omega arith)
+          ∙ ap (λ (t : Told). sent writeList (sent (replicate turns poll) t)) (confirming turns m (positive (timeOf r (b .command)) (b .p) (valid .some) some-time) (omega arith) hit)
+
+      pub gives-up : (n read : ℕ) → writeCount (b .command) + turns * 2 ≤ n → eqb (bitSeven shown) (bitWanted (b .command) (b .«data»)) ≡ false
+          → talk (b .part) wp n (stepOf (moved b Writing 0) read) (chip cells d)
+          ≡ told (writeList ++ replicate (turns * 2) poll) rested (ended (moved b Polling (turns * 2)) GaveUp)
+      unfolding mostPolls
+      gives-up n read enough miss =
+          let m : ℕ = n - (writeCount (b .command) + turns) in
+          opening n m read (omega arith)
+          ∙ (ap (λ (t : Told). sent writeList (sent (replicate turns poll) t))
+          (giving-up turns turns m (positive (timeOf r (b .command)) (b .p) (valid .some) some-time) (omega arith) (omega arith) miss)
+          ∙ ap (λ (cs : List Cycle). told (writeList ++ cs) rested (ended (moved b Polling (turns * 2)) GaveUp)) twice)
+        where
+          twice : replicate turns poll ++ (replicate turns poll ++ []) ≡ replicate (turns * 2) poll
+          twice =
+              let e : turns + turns ≡ turns * 2 = omega arith in
+              ap (λ (cs : List Cycle). replicate turns poll ++ cs) (append-nil (replicate turns poll)) ∙ (replicate-append-replicate turns turns poll ∙ rw e)

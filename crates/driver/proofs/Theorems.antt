@@ -1,0 +1,163 @@
+-- What is proved of the driver, over all parts at once. Every hypothesis stands in the statement; a refusal of 0 says that what is asked is accepted.
+use Prim.Native.Nat.{ℕ, _+_, _*_, _≤_}
+use mathlib.Core.Path.{_≡_, ap, _∙_}
+use mathlib.Core.Bool.{Bool, true, false}
+use mathlib.Core.List.{List, [], _∷_, _++_, append-nil}
+use native.Mathlib.Omega.{arith}
+use borrow.Author.Tests.{eq-eqb, ne-eqb}
+use lib.Dec.{eqb}
+use lib.ListN.{length, getD, replicate}
+use lib.Bits.{bitAnd}
+use Rattle.parts.specs.Pick.{pick}
+use Rattle.parts.specs.Width.{valueOf}
+use Rattle.parts.specs.Table.{rowOf}
+use Rattle.parts.specs.Time.{pollsOf}
+use Rattle.parts.specs.declared.table.Row.{Row}
+use Rattle.chip.specs.declared.device.Mode.the-variants.{ReadMode}
+use Rattle.chip.specs.declared.device.Device.{Device}
+use Rattle.chip.specs.declared.cycle.Action.the-variants.{Read}
+use Rattle.chip.specs.declared.cycle.Cycle.{Cycle}
+use Rattle.chip.specs.Device.{device, freshDevice, idle}
+use Rattle.chip.specs.Sequence.{ignored}
+use Rattle.chip.specs.Cycle.{Chip, chip}
+use Rattle.chip.specs.Trace.{play, startedIn}
+use Rattle.driver.specs.declared.machine.Phase.{Phase}
+use Rattle.driver.specs.declared.machine.Phase.the-variants.{Polling, Done, GaveUp, Differs}
+use Rattle.driver.specs.declared.machine.Next.{Next}
+use Rattle.driver.specs.declared.machine.Next.the-variants.{Nothing}
+use Rattle.driver.specs.declared.machine.Step.{Step}
+use Rattle.driver.specs.Refusals.{commandRefusal, startRefusal}
+use Rattle.driver.specs.Writes.{writesOf, writeCount}
+use Rattle.driver.specs.Machine.{addressOf, bitSeven, bitWanted, valueWanted, begun, startOf, mostPolls, moved, ending, ended, stepOf}
+use Rattle.driver.specs.Talk.{cycle, writeCycles, operationOf, completed, shownAfter, Told, told, talk, Heard, heard, pollsIn}
+use Rattle.driver.proofs.Asked as Asked
+use Rattle.driver.proofs.Steps.{kept, few, counts, limits, falls, named}
+use Rattle.driver.proofs.Within.{within, over, counted}
+use Rattle.driver.proofs.Commands.{idle-is, command-leads}
+use Rattle.driver.proofs.Begins.{started, few-commands, kept-accepted, start-range, kept-address, kept-bit, kept-value, kept-last, kept-writes, kept-heeded}
+use Rattle.driver.proofs.Talks as Talks
+use Rattle.driver.proofs.Shown as Shown
+
+-- ---- D1: a command's writes on the model
+-- On the lent cells of a part, from any idle device, at a WP# level under which the command is not ignored, the writes of an accepted command leave the cells
+-- as they were and the device running exactly that operation, with its whole table time left; and it is the one operation that they start.
+pub writes-start : (part command address word : ℕ) (wp : Bool) (cells : List ℕ) (d : Device)
+    → commandRefusal part command address word ≡ 0
+    → length cells ≡ rowOf part .cells
+    → idle d ≡ true
+    → ignored (rowOf part) wp command address ≡ false
+    → (play part (chip cells d) (writeCycles wp (writesOf (rowOf part) command address word)) ≡ chip cells (device ReadMode 0 (operationOf (rowOf part) command address word)))
+    × (startedIn part (chip cells d) (writeCycles wp (writesOf (rowOf part) command address word)) ≡ operationOf (rowOf part) command address word ∷ [])
+writes-start part command address word wp cells d accepted whole rest heeded =
+    let w = Asked.asked part command address word accepted in
+    let i = idle-is d rest in
+    let cs = writeCycles wp (writesOf (rowOf part) command address word) in
+    let l = command-leads part (w .known) cells whole wp (d .running) (i .1) command address word (w .target) heeded in
+    (ap (λ (d : Device). play part (chip cells d) cs) (i .0) ∙ l .played, ap (λ (d : Device). startedIn part (chip cells d) cs) (i .0) ∙ l .begun)
+
+-- ---- D2: a started driver against the model
+-- On the lent cells of a part, from any idle device, at a WP# level under which the command is not ignored.
+module _ (part command address word p : ℕ) (wp : Bool) (cells : List ℕ) (d : Device)
+    (accepted : startRefusal part command address word p ≡ 0)
+    (whole : length cells ≡ rowOf part .cells)
+    (rest : idle d ≡ true)
+    (heeded : ignored (rowOf part) wp command address ≡ false) where
+  -- the row; the polled address; N; what a read there shows once the operation has completed
+  abbrev r : Row
+  r = rowOf part
+
+  abbrev at : ℕ
+  at = addressOf command address
+
+  abbrev N : ℕ
+  N = pollsOf r command p
+
+  abbrev shown : ℕ
+  shown = shownAfter r command address word cells
+
+  -- the talk that begins with the driver's first step, whatever was read before: at most n cycles
+  abbrev talked : ℕ → ℕ → Told
+  talked n read = talk part wp n (stepOf (startOf part command address word p .driver) read) (chip cells d)
+
+  -- the cycles of it: the writes, so many polls, and what follows
+  abbrev sending : ℕ → List Cycle → List Cycle
+  sending polls cs = writeCycles wp (writesOf r command address word) ++ (replicate polls (cycle p wp (Read at)) ++ cs)
+
+  -- the chip that it leaves: the operation completed on the cells, and the device idle
+  abbrev leaving : Chip
+  leaving = chip (completed r command address word cells) freshDevice
+
+  -- its end, after so many polls: the number of the ending, and the polls in the result
+  abbrev ending-with : ℕ → Phase → Step
+  ending-with polls f = ended (moved (begun part command address word p) Polling polls) f
+
+  -- Where bit 7 of the shown value is the wanted one, it sends the writes, N polls and one confirming read, and ends 0 where the shown value is the wanted
+  -- one, and else 12; with N polls in the result.
+  pub performs : bitSeven shown ≡ bitWanted command word → (n read : ℕ) → writeCount command + N + 1 ≤ n
+      → talked n read ≡ told (sending N (cycle 0 wp (Read at) ∷ [])) leaving (ending-with N (pick (eqb shown (valueWanted r command word)) Done Differs))
+  performs hit n read enough =
+      let c = few-commands part command address word p accepted in
+      let l = kept-last r command address word c in
+      let a = kept-address command address in
+      rw (started part command address word p accepted)
+      (rw (kept-writes r command address word c, l, a, kept-value r command word) at
+      (Talks.performs (begun part command address word p) (kept-accepted part command address word p accepted) wp cells whole d rest (kept-heeded r command address word c wp ∙ heeded)
+      n read enough (rw (l, a, kept-bit command word) (eq-eqb (bitSeven shown) (bitWanted command word) hit))))
+
+  -- Where it is not (a program over a cell whose bit 7 would have to rise), it sends the writes and 2N polls, and ends 11 with 2N polls in the result.
+  pub gives-up : (bitSeven shown ≡ bitWanted command word → ⊥) → (n read : ℕ) → writeCount command + N * 2 ≤ n
+      → talked n read ≡ told (sending (N * 2) []) leaving (ending-with (N * 2) GaveUp)
+  gives-up miss n read enough =
+      let c = few-commands part command address word p accepted in
+      let l = kept-last r command address word c in
+      let a = kept-address command address in
+      rw (started part command address word p accepted, append-nil (replicate (N * 2) (cycle p wp (Read at))))
+      (rw (kept-writes r command address word c, l, a) at
+      (Talks.gives-up (begun part command address word p) (kept-accepted part command address word p accepted) wp cells whole d rest (kept-heeded r command address word c wp ∙ heeded)
+      n read enough (rw (l, a, kept-bit command word) (ne-eqb (bitSeven shown) (bitWanted command word) miss))))
+
+  -- So where the shown value is the wanted one, it ends 0 after N polls and the confirming read.
+  pub succeeds : shown ≡ valueWanted r command word → (n read : ℕ) → writeCount command + N + 1 ≤ n
+      → talked n read ≡ told (sending N (cycle 0 wp (Read at) ∷ [])) leaving (ending-with N Done)
+  succeeds same n read enough =
+      let k = Asked.begun part command address word p accepted .asked .known in
+      rw (eq-eqb shown (valueWanted r command word) same) at (performs (ap bitSeven same ∙ Shown.wanted-bit part command word k) n read enough)
+
+  -- That is so after every erase;
+  pub erase-shows : (command ≡ 0 → ⊥) → shown ≡ valueWanted r command word
+  erase-shows e = let w = Asked.begun part command address word p accepted .asked in Shown.erase-shows part command address word (w .known) (w .target) cells whole e
+
+  -- and after a program where no bit has to rise: there the shown value is the old one AND the data.
+  pub program-shows : command ≡ 0 → shown ≡ bitAnd (valueOf (r .width) (getD cells address 0)) word
+  program-shows z = let w = Asked.begun part command address word p accepted .asked in Shown.program-shows part command address word (w .known) (w .target) cells whole z
+
+-- ---- D3: whatever is replied
+-- how a talk stands that has ended: it names nothing more; its cycles are at most its writes, 2N polls and one confirming read; its poll count is that of
+-- the polls sent, and at most 2N; its answer is the number of its ending, 0, 11 or 12; and it repeats its ending, whatever is read
+pub record Ended (part command p : ℕ) (t : Heard) : Type 0 where
+  pub names-nothing : t .last .next ≡ Nothing
+  pub cycles-few : length (t .cycles) ≤ writeCount command + pollsOf (rowOf part) command p * 2 + 1
+  pub polls-counted : t .last .polls ≡ pollsIn (t .cycles)
+  pub polls-few : t .last .polls ≤ pollsOf (rowOf part) command p * 2
+  pub numbered : t .last .answer ≡ ending (t .last .driver .phase)
+  pub repeated : (read : ℕ) → stepOf (t .last .driver) read ≡ t .last
+
+-- Whatever f replies, a dead chip's constant among them, and whatever was read before, a started driver has ended after its writes + 2N + 1 cycles.
+pub always-ends : (part command address word p : ℕ) → startRefusal part command address word p ≡ 0
+    → (wp : Bool) (f : ℕ → ℕ) (read n : ℕ) → writeCount command + pollsOf (rowOf part) command p * 2 + 1 ≤ n
+    → Ended part command p (heard wp f n (stepOf (startOf part command address word p .driver) read))
+unfolding mostPolls
+always-ends part command address word p accepted wp f read n enough =
+    rw (started part command address word p accepted)
+    (let d = begun part command address word p in
+    let i = start-range part command address word p accepted in
+    let e = over wp n f (stepOf d read) (omega (arith, falls d read)) in
+    let w = counted wp n f (stepOf d read) (kept d read i) in
+    record {
+      names-nothing = e;
+      cycles-few = omega (arith, within wp n f (stepOf d read), falls d read);
+      polls-counted = omega (arith, w .sum, counts d read wp i, ap (λ (x : Next). pollsIn (named wp x)) e);
+      polls-few = omega (arith, few _ (w .stands .range), w .stands .carried, w .limit, limits d read);
+      numbered = w .stands .number;
+      repeated = w .stands .again e;
+    })
