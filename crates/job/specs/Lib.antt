@@ -4,3 +4,4 @@ pub mod Refusal
 pub mod Loader
 pub mod Kept
 pub mod Run
+pub mod Sent
