@@ -3,3 +3,7 @@ pub mod Within
 pub mod Loop
 pub mod Tags
 pub mod Rest
+pub mod Operates
+pub mod Right
+pub mod Left
+pub mod Sectors

@@ -35,7 +35,7 @@ chipOf w = chip (w .cells) (w .held .device)
 
 -- a talk's turn, and its end
 module _ (part : ℕ) (wp : Bool) (m : ℕ) (t : Step) (h : Chip) where
-  talk-stops : t .next ≡ Nothing → talk part wp (suc m) t h ≡ told [] h t
+  pub talk-stops : t .next ≡ Nothing → talk part wp (suc m) t h ≡ told [] h t
   unfolding talk
   talk-stops q = by (t .next) q
     where
@@ -44,7 +44,7 @@ module _ (part : ℕ) (wp : Bool) (m : ℕ) (t : Step) (h : Chip) where
       by Nothing q = refl
       by (Send e a) q = silent e a (sym q)
 
-  talk-goes : (e : ℕ) (a : Action) → t .next ≡ Send e a → talk part wp (suc m) t h ≡ led (cycle e wp a) (talk part wp m (stepOf (t .driver) (shows part h (cycle e wp a))) (after part h (cycle e wp a)))
+  pub talk-goes : (e : ℕ) (a : Action) → t .next ≡ Send e a → talk part wp (suc m) t h ≡ led (cycle e wp a) (talk part wp m (stepOf (t .driver) (shows part h (cycle e wp a))) (after part h (cycle e wp a)))
   unfolding talk
   talk-goes e a q = rw (q, talk)
 
@@ -121,7 +121,7 @@ module _ (j : Job) (image : List ℕ) where
         (rest-is (turnOf j image seen (loader s base i (t .driver)) r) _ (sendOf (j .part) w p c) _ _ (steps (t .driver) r) refl
         (ih (n + 1) (stepOf (t .driver) r) (sendOf (j .part) w p c) L (λ e a x. tag-step command (n + 1) (t .driver) (g .1) e a r x) (rw u at e) (rw u at z) (rw u at h))))
 
-    talks : (command m n : ℕ) (t : Step) (w : World) (L : List Sent) → Stepped command n t → Goes command m n t w L
+    pub talks : (command m n : ℕ) (t : Step) (w : World) (L : List Sent) → Stepped command n t → Goes command m n t w L
     unfolding talk
     talks command zero n t w L k = λ e z h. ends t w L e z (h w refl)
     talks command (suc m) n t w L k = turning command m n (talks command m) t w L k (t .next) refl
