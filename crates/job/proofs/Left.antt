@@ -55,6 +55,9 @@ module _ (r : Row) (a : ℕ) (aligned : a % sectorSize (r .width) ≡ 0) where
     middle : length blanks ≡ S
     middle = length-map (take S (drop a cells)) (λ (o : ℕ). blankOf (r .width)) ∙ kept
 
+    pub erase-length : length (completed r 1 a 0 cells) ≡ length cells
+    erase-length = ap length (erase-leaves cells) ∙ simp (length-append, length-map, length-take, length-drop) (omega arith)
+
     pub erase-drop : drop (a + S) (completed r 1 a 0 cells) ≡ drop (a + S) cells
     erase-drop =
         rw (erase-leaves cells)

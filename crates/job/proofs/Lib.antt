@@ -6,4 +6,5 @@ pub mod Rest
 pub mod Operates
 pub mod Right
 pub mod Left
+pub mod Clears
 pub mod Sectors

@@ -3,13 +3,13 @@ use Prim.Native.Nat.{ℕ, zero, suc, _+_, _-_, _*_, _/_, _%_, _≤_, _<_}
 use mathlib.Core.Path.{_≡_, refl, sym, ap, ap₂, _∙_}
 use mathlib.Core.Bool.{Bool, true, false}
 use mathlib.Core.List.{List, [], _∷_, _++_, map, append-assoc}
-use native.Mathlib.Nat.{le-refl}
+use native.Mathlib.Nat.{le-refl, not-suc-le-zero, le-of-suc-le-suc, add-mod, add-mod-right, zero-mod, zero-mul, suc-mul}
 use native.Mathlib.Numerals.{add-one}
 use native.Mathlib.Omega.{arith}
 use borrow.Author.Tests.{lt-ltb, le-ltb, eq-eqb, ne-eqb, eqb-true, eqb-false}
 use lib.Dec.{eqb, ltb}
-use lib.ListN.{length, getD, set, take, drop, length-set, length-drop}
-use lib.Seq.{take-suc, take-suc-set, getD-drop, getD-set-other, drop-set-lt, drop-cons, drop-drop}
+use lib.ListN.{length, getD, set, take, drop, length-set, length-drop, length-map}
+use lib.Seq.{take-suc, take-suc-set, getD-take, getD-drop, getD-set-other, drop-set-lt, drop-cons, drop-drop}
 use lib.Bits.{bitAnd, and-comm, and-mask}
 use Rattle.parts.specs.Pick.{pick}
 use Rattle.parts.specs.Width.{valueOf, blankOf, fitsIn, sectorSize}
@@ -24,6 +24,7 @@ use Rattle.chip.specs.Cycle.{Outcome, outcome, cycleOf}
 use Rattle.chip.proofs.Cases.{read-rest}
 use Rattle.driver.specs.declared.machine.Driver.{Driver}
 use Rattle.driver.specs.Machine.{stepOf}
+use Rattle.driver.specs.Talk.{completed}
 use Rattle.driver.proofs.Theorems.{program-shows, erase-shows}
 use Rattle.job.specs.declared.loader.Job.{Job}
 use Rattle.job.specs.declared.loader.Stage.{Stage}
@@ -36,9 +37,11 @@ use Rattle.job.specs.Run.{Sent, sent, World, sendOf}
 use Rattle.job.specs.Sent.{operated, scanRead, scans, fills, looks, sectorSent, sectorsSent, sentOf}
 use Rattle.job.proofs.Within.{sector-in}
 use Rattle.job.proofs.Right.{Right, program-starts, erase-starts, fit-at}
-use Rattle.job.proofs.Left.{program-leaves, erase-leaves, erase-drop, erase-at}
+use Rattle.job.proofs.Turns.{part-length}
+use Rattle.job.proofs.Clears.{clears, none-rises}
+use Rattle.job.proofs.Left.{program-leaves, erase-length, erase-drop, erase-at}
 use Rattle.job.proofs.Operates.{operates}
-use Rattle.job.proofs.Rest.{Rest, rest-is, rest-more}
+use Rattle.job.proofs.Rest.{Rest, rest-none, rest-is, rest-more}
 
 -- one more of a list, mapped
 map-suc : (f : ℕ → ℕ) (l : List ℕ) (i : ℕ) → i < length l → map f (take (suc i) l) ≡ map f (take i l) ++ (f (getD l i 0) ∷ [])
@@ -320,3 +323,101 @@ module _ (j : Job) (image : List ℕ) (R : Right j image) where
     looking zero i = λ seen w D L e n g b d h.
         rest-is j image _ (turned seen (firstOf j (base + j .size))) w _ L (ap (λ (b : Bool). turned seen (pick b (readsCell j Looking base i) (firstOf j (base + j .size)))) (le-ltb i (j .size) (omega arith))) refl (h seen w n g d)
     looking (suc m) i = look-more m i (looking m (i + 1))
+
+    -- ---- the decision
+    -- with no rising bit, every cell only has to lose bits
+    clear-all : (cells : List ℕ) → length cells ≡ r .cells → rises (j .row .width) (map value (take (j .size) (drop a cells))) (take (j .size) (drop base image)) ≡ false → Clears 0 cells
+    clear-all cells whole e = λ k le lt.
+        let ln : length (take (j .size) (drop a cells)) ≡ j .size = part-length cells a (j .size) (omega (arith, R .range)) in
+        let lm : length (take (j .size) (drop base image)) ≡ j .size = part-length image base (j .size) (omega (arith, R .count)) in
+        let hn : k < length (map value (take (j .size) (drop a cells))) = rw (length-map (take (j .size) (drop a cells)) value, ln) lt in
+        let o : getD (map value (take (j .size) (drop a cells))) k 0 ≡ value (getD cells (a + k) 0) =
+        value-at (take (j .size) (drop a cells)) k (rw ln lt) ∙ ap value (getD-take (j .size) (drop a cells) k 0 lt ∙ getD-drop a cells k 0) in
+        let x : getD (take (j .size) (drop base image)) k 0 ≡ imageAt k = getD-take (j .size) (drop base image) k 0 lt ∙ getD-drop base image k 0 in
+        clears (j .row .width) (value (getD cells (a + k) 0)) (imageAt k) (fits-lt (j .row .width) (imageAt k) (fits-at k lt))
+        (rw (o, x) at (none-rises (j .row .width) (map value (take (j .size) (drop a cells))) (take (j .size) (drop base image)) k hn (rw lm lt) e))
+      where
+        value-at : (l : List ℕ) (k : ℕ) → k < length l → getD (map value l) k 0 ≡ value (getD l k 0)
+        value-at [] k h = absurd (not-suc-le-zero h)
+        value-at (y ∷ l) zero h = refl
+        value-at (y ∷ l) (suc k) h = value-at l k (le-of-suc-le-suc h)
+
+    module _ (multiple : base % j .size ≡ 0) where
+      aligned : a % sectorSize (r .width) ≡ 0
+      aligned = rw (← R .size) (add-mod (j .first) base (j .size) ∙ rw (R .aligned, multiple) (zero-mod (j .size)))
+
+      -- an erase, then the sector is filled
+      erases : (seen : List ℕ) (w : World) (D : List ℕ) (L : List Sent) → length seen ≡ 4096 → 0 < j .size → Ready w → drop (a + j .size) (w .cells) ≡ D → Next D L
+          → Rest j image (turned seen (beginOf j Erasing base 0 1 0)) w (operated j 1 a 0 ++ (fills j a (take (j .size) (drop base image)) ++ L))
+      unfolding idle
+      erases seen w D L n some g d h =
+          let q : a ≡ placeOf j base 0 = omega arith in
+          let at = placeOf j base 0 in
+          let t : at < r .cells = omega (arith, there 0 some) in
+          let accepted = erase-starts j image R at t in
+          let heeded = R .heeded 1 at (omega arith) (omega arith) (omega (arith, inside)) in
+          let shown = erase-shows (j .part) 1 at 0 (j .p) (j .wp) (w .cells) (w .held .device) accepted (g .whole) (rw (g .rest)) heeded (λ e. absurd (omega arith)) in
+          let room : a + sectorSize (r .width) ≤ length (w .cells) = omega (arith, R .size, R .range, g .whole) in
+          let z : a + 0 ≡ a = omega arith in
+          let y : base + 0 ≡ base = omega arith in
+          rest-is j image _ _ w _ (operated j 1 at 0 ++ (fills j (a + 0) (take (j .size) (drop (base + 0) image)) ++ L)) refl (rw (z, y))
+          (operates j image (R .row) Erasing (λ _ _ _ _ _. (refl, refl)) base 0 inside some seen 1 0 (omega arith) accepted heeded w (g .rest) (g .whole) shown _
+          (λ w′ ec ed. let c : w′ .cells ≡ completed r 1 a 0 (w .cells) = ec ∙ ap (λ (n : ℕ). completed r 1 n 0 (w .cells)) (sym q) in
+          filling (j .size) 0 seen w′ D L (omega arith) n
+          (record { rest = ed; whole = ap length c ∙ (erase-length r a aligned (w .cells) room ∙ g .whole) })
+          (λ k le lt. ap (λ (l : List ℕ). value (getD l (a + k) 0)) c ∙ (ap value (erase-at r a aligned (w .cells) room k (omega (arith, R .size))) ∙ rw (R .row) (value-blank (r .width))))
+          (ap (drop (a + j .size)) c ∙ (rw (R .size) (erase-drop r a aligned (w .cells) room) ∙ d)) h))
+
+      -- the decision, from the values seen: erase and fill, or look again
+      deciding : (cells D : List ℕ) (L : List Sent) → 0 < j .size → drop (a + j .size) cells ≡ D → Next D L
+          → Decides cells
+          (pick (rises (j .row .width) (map value (take (j .size) (drop a cells))) (take (j .size) (drop base image))) (operated j 1 a 0 ++ fills j a (take (j .size) (drop base image)))
+          (looks j a (take (j .size) (drop a cells)) (take (j .size) (drop base image))) ++ L)
+      unfolding decideOf
+      deciding cells D L some d h seen w g c s = rw (s .1) (by (rises (j .row .width) (map value (take (j .size) (drop a cells))) (take (j .size) (drop base image))) refl)
+        where
+          d′ : drop (a + j .size) (w .cells) ≡ D
+          d′ = ap (drop (a + j .size)) c ∙ d
+
+          by : (t : Bool) → rises (j .row .width) (map value (take (j .size) (drop a cells))) (take (j .size) (drop base image)) ≡ t
+              → Rest j image (turned seen (pick t (beginOf j Erasing base 0 1 0) (lookOf j base 0))) w
+              (pick t (operated j 1 a 0 ++ fills j a (take (j .size) (drop base image))) (looks j a (take (j .size) (drop a cells)) (take (j .size) (drop base image))) ++ L)
+          by true t =
+              rest-is j image _ _ w _ (operated j 1 a 0 ++ (fills j a (take (j .size) (drop base image)) ++ L)) refl (append-assoc (operated j 1 a 0) (fills j a (take (j .size) (drop base image))) L)
+              (erases seen w D L (s .0) some g d′ h)
+          by false t =
+              let z : a + 0 ≡ a = omega arith in
+              let y : base + 0 ≡ base = omega arith in
+              rest-is j image _ _ w _ _ refl (rw (← c) (sym (rw (z, y))))
+              (looking (j .size) 0 seen w D L (omega arith) (s .0) g (clear-all (w .cells) (g .whole) (rw (← c) at t)) d′ h)
+
+      -- the sector
+      pub sector : (seen : List ℕ) (w : World) (D : List ℕ) (L : List Sent) → length seen ≡ 4096 → 0 < j .size → j .size ≤ 4096 → Ready w → drop (a + j .size) (w .cells) ≡ D → Next D L
+          → Rest j image (turned seen (firstOf j base)) w (sectorSent j a (take (j .size) (drop a (w .cells))) (take (j .size) (drop base image)) ++ L)
+      unfolding firstOf sectorSent
+      sector seen w D L n some most g d h =
+          let l = take (j .size) (drop a (w .cells)) in
+          let v = take (j .size) (drop base image) in
+          let X = pick (rises (j .row .width) (map value l) v) (operated j 1 a 0 ++ fills j a v) (looks j a l v) in
+          let z : a + 0 ≡ a = omega arith in
+          let m : suc (j .size - 1) ≡ j .size = omega arith in
+          rest-is j image _ (turned seen (readsCell j Scanning base 0)) w _ (scans j (a + 0) (suc (j .size - 1)) ++ (X ++ L))
+          (ap (λ (b : Bool). turned seen (pick b (readsCell j Scanning base 0) (Stop 0))) (lt-ltb base (j .count) (omega arith)))
+          (append-assoc (scans j a (j .size)) X L ∙ sym (rw (z, m)))
+          (scanning (j .size - 1) 0 seen w (X ++ L) (omega arith) most g (n, refl) (deciding (w .cells) D L some d h))
+
+  -- ---- all sectors
+  module _ (some : 0 < j .size) (most : j .size ≤ 4096) where
+    pub sectors : (n base : ℕ) (seen : List ℕ) (w : World) → base + n * j .size ≡ j .count → base % j .size ≡ 0 → length seen ≡ 4096 → Ready w
+        → Rest j image (turned seen (firstOf j base)) w (sectorsSent j (j .first + base) n (drop (j .first + base) (w .cells)) (drop base image))
+    unfolding firstOf sectorsSent
+    sectors zero base seen w e m l g =
+        rest-is j image _ (turned seen (Stop 0)) w _ [] (ap (λ (b : Bool). turned seen (pick b (readsCell j Scanning base 0) (Stop 0))) (le-ltb base (j .count) (omega (arith, zero-mul (j .size))))) refl (rest-none j image seen 0 w)
+    sectors (suc n) base seen w e m l g =
+        let i : base + j .size ≤ j .count = omega (arith, suc-mul n (j .size)) in
+        let x : base + j .size + n * j .size ≡ j .count = omega (arith, suc-mul n (j .size)) in
+        let q : j .first + (base + j .size) ≡ j .first + base + j .size = omega arith in
+        sector base i m seen w (drop (j .first + base + j .size) (w .cells)) _ l some most g refl
+        (λ seen′ w′ l′ g′ d. rest-is j image _ _ w′ _ _ refl
+        (rw (drop-drop (j .size) (j .first + base) (w .cells), drop-drop (j .size) base image, q, d))
+        (sectors n (base + j .size) seen′ w′ x (add-mod-right base (j .size) ∙ m) l′ g′))
