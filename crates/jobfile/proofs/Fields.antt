@@ -1,5 +1,5 @@
 -- Laws of a number in bytes: a single byte, two parts of a number, and a number past the end.
-use mathlib.Core.Path.{_≡_, refl, sym, ap, _∙_}
+use mathlib.Core.Path.{_≡_, refl, ap, _∙_}
 use mathlib.Core.List.{List, [], _∷_}
 use Prim.Native.Nat.{ℕ, zero, suc, _+_, _*_, _-_, _^_, _≤_}
 use native.Mathlib.Nat.{zero-add, suc-add, mul-zero, mul-comm, mul-assoc, pow-suc}

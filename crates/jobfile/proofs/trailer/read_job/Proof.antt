@@ -7,7 +7,7 @@ use borrow.Author.Needs.{needs}
 use borrow.Author.Tests.{le-ltb}
 use Rattle.jobfile.specs.JobFile.{malformed, jobOf}
 use Rattle.parts.proofs.Rules.{tests}
-use Rattle.jobfile.proofs.Accepted.{distance-within}
+use Rattle.jobfile.proofs.Accepted.{is-right}
 use Rattle.jobfile.proofs.trailer.read_job.Statement.{statement}
 use Rattle.jobfile.proofs.trailer.read_job.Tie as tie
 
@@ -59,7 +59,7 @@ cast-t13 : tie.Need-cast-t13
 cast-t13 c = search needs
 
 sub-t5 : tie.Need-sub-t5
-sub-t5 c = rw (c .before .before .before .before .four-bytes .ensures) (distance-within _ _ (sym (c .before .before .before .before .before .before .is-wrong .ensures) ∙ c .before .before .before .before .before .if2 .left))
+sub-t5 c = rw (c .before .before .before .before .four-bytes .ensures) (is-right _ _ (sym (c .before .before .before .before .before .before .is-wrong .ensures) ∙ c .before .before .before .before .before .if2 .left) .within)
 
 returns-3 : tie.Need-returns-3
 unfolding malformed jobOf
