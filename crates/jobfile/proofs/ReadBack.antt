@@ -7,8 +7,8 @@ use contract.Lifetimes.{Lfts}
 use borrow.Fn.Kinds.{Dens, endedOf, resT}
 use denote.Triple.Clauses.{AtExit}
 use lib.ListN.{length}
-use Rattle.jobfile.specs.JobFile.{jobOf}
-use Rattle.jobfile.specs.Made.{Below, fileOf, asks}
+use Rattle.jobfile.specs.JobFile.{asks, jobOf}
+use Rattle.jobfile.specs.Made.{Below, fileOf}
 use Rattle.jobfile.proofs.RoundTrip.{round-trip}
 use Rattle.jobfile.proofs.trailer.read_job.Kinds as job-kinds
 use Rattle.jobfile.proofs.trailer.read_job.Reads as job-reads

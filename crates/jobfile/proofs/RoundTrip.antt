@@ -9,8 +9,8 @@ use lib.ListN.{length, length-append}
 use lib.Seq.{drop-at}
 use Rattle.parts.specs.Pick.{pick}
 use Rattle.jobfile.specs.Bytes.{number, field}
-use Rattle.jobfile.specs.JobFile.{levelOf, distanceOf, trailerOf, asked, jobOf, valuesOf}
-use Rattle.jobfile.specs.Made.{Below, bytesOf, imageBytes, trailerBytes, fileOf, asks}
+use Rattle.jobfile.specs.JobFile.{levelOf, distanceOf, trailerOf, asks, asked, jobOf, valuesOf}
+use Rattle.jobfile.specs.Made.{Below, bytesOf, imageBytes, trailerBytes, fileOf}
 use Rattle.jobfile.proofs.Spelled.{number-bytes}
 use Rattle.jobfile.proofs.Accepted.{Right, job-asked}
 use Rattle.jobfile.proofs.Values.{values-from}

@@ -8,28 +8,36 @@ use Rattle.parts.specs.Pick.{pick}
 use Rattle.jobfile.specs.Bytes.{field}
 use Rattle.jobfile.specs.declared.trailer.JobFile.{JobFile}
 
--- the fields of a trailer t, 16 bytes: part 0-1, WP# 2, zero 3, first address 4-7, p 8-9, zeros 10-11, distance 12-15
+-- ---- the fields of a trailer t, 16 bytes
+-- bytes 0-1: the part
 abbrev pub partOf : List ℕ → ℕ
 partOf t = field t 0 2
 
+-- byte 2: the WP# level, 0 low, 1 high
 abbrev pub levelOf : List ℕ → ℕ
 levelOf t = field t 2 1
 
+-- byte 3: zero
 abbrev pub zeroOf : List ℕ → ℕ
 zeroOf t = field t 3 1
 
+-- bytes 4-7: the first address
 abbrev pub firstOf : List ℕ → ℕ
 firstOf t = field t 4 4
 
+-- bytes 8-9: p
 abbrev pub pOf : List ℕ → ℕ
 pOf t = field t 8 2
 
+-- bytes 10-11: zero
 abbrev pub zerosOf : List ℕ → ℕ
 zerosOf t = field t 10 2
 
+-- bytes 12-15: the distance in bytes from the trailer back to the image
 abbrev pub distanceOf : List ℕ → ℕ
 distanceOf t = field t 12 4
 
+-- ---- the file
 -- a trailer is wrong that has so many bytes before it: a wrong zero, a level above 1, an odd distance, or one beyond the file's start
 unfoldable pub wrong : List ℕ → ℕ → Bool
 wrong t before =
@@ -51,18 +59,15 @@ malformed file = pick (ltb (length file) 16) true (wrong (trailerOf file) (lengt
 abbrev pub refused : JobFile
 refused = record { answer = 13; part = 0; wp = false; first = 0; p = 0; start = 0; count = 0 }
 
--- what a trailer asks that has so many bytes before it: WP# 1 is high; the image begins the distance before the trailer, two bytes a value
+-- what is asked, by its numbers
+abbrev pub asks : ℕ → Bool → ℕ → ℕ → ℕ → ℕ → JobFile
+asks part wp first p start count =
+    record { answer = 0; part = part; wp = wp; first = first; p = p; start = start; count = count }
+
+-- what a trailer asks that has so many bytes before it: the image begins the distance before the trailer, two bytes a value
 abbrev pub asked : List ℕ → ℕ → JobFile
 asked t before =
-    record {
-      answer = 0;
-      part = partOf t;
-      wp = eqb (levelOf t) 1;
-      first = firstOf t;
-      p = pOf t;
-      start = before - distanceOf t;
-      count = distanceOf t / 2;
-    }
+    asks (partOf t) (eqb (levelOf t) 1) (firstOf t) (pOf t) (before - distanceOf t) (distanceOf t / 2)
 
 -- what a job file asks
 unfoldable pub jobOf : List ℕ → JobFile

@@ -4,7 +4,6 @@ use mathlib.Core.Bool.{Bool}
 use mathlib.Core.List.{List, [], _∷_, _++_}
 use lib.ListN.{length, getD}
 use Rattle.parts.specs.Pick.{pick}
-use Rattle.jobfile.specs.declared.trailer.JobFile.{JobFile}
 
 -- each number of a list is below n: of bytes n is 256, of 16-bit words 65,536
 abbrev pub Below : ℕ → List ℕ → Type 0
@@ -35,8 +34,3 @@ trailerBytes part wp first p distance =
 abbrev pub fileOf : List ℕ → ℕ → Bool → ℕ → ℕ → List ℕ → List ℕ
 fileOf remarks part wp first p image =
     remarks ++ (imageBytes image ++ trailerBytes part wp first p (2 * length image))
-
--- what a job file asks, by its numbers
-abbrev pub asks : ℕ → Bool → ℕ → ℕ → ℕ → ℕ → JobFile
-asks part wp first p start count =
-    record { answer = 0; part = part; wp = wp; first = first; p = p; start = start; count = count }

@@ -68,14 +68,20 @@ pub fn read_job(file: &[u8]) -> JobFile
     if is_wrong(t, before) {
         return refused_job();
     }
+    let part = two_bytes(t, 0) as u32;
+    let wp = one_byte(t, 2) == 1;
+    let first = four_bytes(t, 4);
+    let p = two_bytes(t, 8) as u32;
     let distance = four_bytes(t, 12) as usize;
+    let start = before - distance;
+    let count = distance / 2;
     JobFile {
         answer: 0,
-        part: two_bytes(t, 0) as u32,
-        wp: one_byte(t, 2) == 1,
-        first: four_bytes(t, 4),
-        p: two_bytes(t, 8) as u32,
-        start: before - distance,
-        count: distance / 2,
+        part,
+        wp,
+        first,
+        p,
+        start,
+        count,
     }
 }

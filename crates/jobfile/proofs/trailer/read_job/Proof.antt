@@ -1,8 +1,7 @@
 -- `jobfile::trailer::read_job` meets its contract.
-use Prim.Native.Nat.{ℕ, _-_}
-use mathlib.Core.Path.{ap, sym, _∙_}
+use mathlib.Core.Path.{sym, _∙_}
 use native.Mathlib.Omega.{arith}
-use lib.ListN.{length, length-drop}
+use lib.ListN.{length-drop}
 use borrow.Author.Needs.{needs}
 use borrow.Author.Tests.{le-ltb}
 use Rattle.jobfile.specs.JobFile.{malformed, jobOf}
@@ -25,7 +24,7 @@ bytes-from-requires : tie.Need-bytes-from-requires
 bytes-from-requires c κs = search needs
 
 is-wrong-requires : tie.Need-is-wrong-requires
-is-wrong-requires c κs = omega (arith, ap (length {A = ℕ}) (c .bytes-from .ensures), length-drop (length (c .before .before .before .args .file .now) - 16) (c .before .before .before .args .file .now))
+is-wrong-requires c κs = simp (c .bytes-from .ensures, length-drop) (omega arith)
 
 refused-job-requires-2 : tie.Need-refused-job-requires-2
 refused-job-requires-2 c κs = search needs
@@ -34,36 +33,36 @@ returns-2 : tie.Need-returns-2
 unfolding malformed jobOf
 returns-2 c = simp (sym (c .before .before .before .bytes-from .ensures), le-ltb _ _ (c .before .before .before .before .if1 .left), sym (c .before .before .is-wrong .ensures) ∙ c .before .if2 .taken) (c .refused-job2 .ensures)
 
-four-bytes-requires : tie.Need-four-bytes-requires
-four-bytes-requires c κs = omega (arith, ap (length {A = ℕ}) (c .before .before .bytes-from .ensures), length-drop (length (c .before .before .before .before .before .args .file .now) - 16) (c .before .before .before .before .before .args .file .now))
-
-cast-distance : tie.Need-cast-distance
-cast-distance c = search needs
-
 two-bytes-requires : tie.Need-two-bytes-requires
 two-bytes-requires c κs = search needs
 
-cast-t8 : tie.Need-cast-t8
-cast-t8 c = search needs
+cast-part : tie.Need-cast-part
+cast-part c = search needs
 
 one-byte-requires : tie.Need-one-byte-requires
 one-byte-requires c κs = search needs
 
-four-bytes-requires-2 : tie.Need-four-bytes-requires-2
-four-bytes-requires-2 c κs = omega (arith, ap (length {A = ℕ}) (c .before .before .before .before .before .bytes-from .ensures), length-drop (length (c .before .before .before .before .before .before .before .before .args .file .now) - 16) (c .before .before .before .before .before .before .before .before .args .file .now))
+four-bytes-requires : tie.Need-four-bytes-requires
+four-bytes-requires c κs = simp (c .before .before .before .before .bytes-from .ensures, length-drop) (omega arith)
 
 two-bytes-requires-2 : tie.Need-two-bytes-requires-2
 two-bytes-requires-2 c κs = search needs
 
-cast-t13 : tie.Need-cast-t13
-cast-t13 c = search needs
+cast-p : tie.Need-cast-p
+cast-p c = search needs
 
-sub-t5 : tie.Need-sub-t5
-sub-t5 c = rw (c .before .before .before .before .four-bytes .ensures) (is-right _ _ (sym (c .before .before .before .before .before .before .is-wrong .ensures) ∙ c .before .before .before .before .before .if2 .left) .within)
+four-bytes-requires-2 : tie.Need-four-bytes-requires-2
+four-bytes-requires-2 c κs = simp (c .before .before .before .before .before .before .bytes-from .ensures, length-drop) (omega arith)
+
+cast-distance : tie.Need-cast-distance
+cast-distance c = search needs
+
+sub-start : tie.Need-sub-start
+sub-start c = omega (arith, c .four-bytes2 .ensures, is-right _ _ (sym (c .before .before .before .before .before .before .is-wrong .ensures) ∙ c .before .before .before .before .before .if2 .left) .within)
 
 returns-3 : tie.Need-returns-3
 unfolding malformed jobOf
-returns-3 c = simp (sym (c .before .before .before .before .before .before .before .bytes-from .ensures), le-ltb _ _ (c .before .before .before .before .before .before .before .before .if1 .left), sym (c .before .before .before .before .before .before .is-wrong .ensures) ∙ c .before .before .before .before .before .if2 .left, sym (c .before .before .one-byte .ensures), sym (c .before .before .before .two-bytes .ensures), sym (c .two-bytes2 .ensures), sym (c .before .before .before .before .four-bytes .ensures), sym (c .before .four-bytes2 .ensures))
+returns-3 c = simp (sym (c .before .before .before .before .before .before .before .bytes-from .ensures), le-ltb _ _ (c .before .before .before .before .before .before .before .before .if1 .left), sym (c .before .before .before .before .before .before .is-wrong .ensures) ∙ c .before .before .before .before .before .if2 .left, sym (c .before .before .before .before .two-bytes .ensures), sym (c .before .before .before .one-byte .ensures), sym (c .before .before .four-bytes .ensures), sym (c .before .two-bytes2 .ensures), sym (c .four-bytes2 .ensures))
 
 pub read-job-spec : {M : Type 1} → statement M
 read-job-spec =
@@ -76,13 +75,13 @@ read-job-spec =
     is-wrong-requires
     refused-job-requires-2
     returns-2
-    four-bytes-requires
-    cast-distance
     two-bytes-requires
-    cast-t8
+    cast-part
     one-byte-requires
-    four-bytes-requires-2
+    four-bytes-requires
     two-bytes-requires-2
-    cast-t13
-    sub-t5
+    cast-p
+    four-bytes-requires-2
+    cast-distance
+    sub-start
     returns-3)
