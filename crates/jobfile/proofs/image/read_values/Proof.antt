@@ -1,0 +1,63 @@
+-- `jobfile::image::read_values` meets its contract.
+use Prim.Native.Nat.{_≤_, _-_}
+use mathlib.Core.Path.{_≡_, _∙_}
+use lib.ListN.{length}
+use borrow.Author.Needs.{needs}
+use Rattle.jobfile.specs.JobFile.{valuesOf}
+use Rattle.jobfile.proofs.Values.{written, written-more, written-all}
+use Rattle.jobfile.proofs.image.read_values.Statement.{statement}
+use Rattle.jobfile.proofs.image.read_values.Tie as tie
+
+abbrev Inv-loop : tie.InvT-loop
+Inv-loop bytes image₀ i₀ image i = (i ≤ length image₀) × ((length image ≡ length image₀) × (image ≡ written bytes image₀ i))
+
+abbrev μ-loop : tie.MeasureT-loop
+μ-loop bytes image₀ i₀ image i = length image₀ - i
+
+loop-holds : tie.Need-loop-holds Inv-loop μ-loop
+unfolding valuesOf
+loop-holds c = search needs
+
+mul-two-bytes : tie.Need-mul-two-bytes Inv-loop μ-loop
+mul-two-bytes c = search needs
+
+two-bytes-requires : tie.Need-two-bytes-requires Inv-loop μ-loop
+two-bytes-requires c κs = search needs
+
+mul-image : tie.Need-mul-image Inv-loop μ-loop
+mul-image c = search needs
+
+slice-write-image : tie.Need-slice-write-image Inv-loop μ-loop
+slice-write-image c = search needs
+
+add-i : tie.Need-add-i Inv-loop μ-loop
+add-i c = search needs
+
+loop-less : tie.Need-loop-less Inv-loop μ-loop
+loop-less c = search needs
+
+loop-again : tie.Need-loop-again Inv-loop μ-loop
+loop-again c = (search needs, (search needs, written-more (c .before .before .before .before .before .args .bytes .now) (c .before .before .before .before .before .args .image .now) _ (c .before .before .loop .i) _ (c .before .before .loop .inv .1 .1) (c .two-bytes .ensures) (search needs)))
+
+same-length : tie.Need-same-length Inv-loop μ-loop
+same-length c = search needs
+
+returns : tie.Need-returns Inv-loop μ-loop
+returns c = c .before .loop .inv .1 .1 ∙ written-all (c .before .before .before .before .args .bytes .now) (c .before .before .before .before .args .image .now) (c .before .loop .i) (search needs) (search needs)
+
+pub read-values-spec : {M : Type 1} → statement M
+read-values-spec =
+    tie.close
+    (tie.spec
+    Inv-loop
+    μ-loop
+    loop-holds
+    mul-two-bytes
+    two-bytes-requires
+    mul-image
+    slice-write-image
+    add-i
+    loop-less
+    loop-again
+    same-length
+    returns)
