@@ -8,3 +8,6 @@ pub mod Right
 pub mod Left
 pub mod Clears
 pub mod Sectors
+pub mod Accepts
+pub mod Runs
+pub mod Billing

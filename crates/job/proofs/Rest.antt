@@ -50,7 +50,7 @@ module _ (part : ℕ) (wp : Bool) (m : ℕ) (t : Step) (h : Chip) where
 
 module _ (j : Job) (image : List ℕ) where
   -- from a turn on, the cycles to come are L
-  pub Rest : Turned → World → List Sent → Type 0
+  unfoldable pub Rest : Turned → World → List Sent → Type 0
   Rest t w L = (k : ℕ) → runOf j image k t w ≡ playOf (j .part) w (take k L)
 
   pub rest-none : (seen : List ℕ) (n : ℕ) (w : World) → Rest (turned seen (Stop n)) w []

@@ -40,7 +40,7 @@ pub struct Held {
 }
 
 // No cycle.
-fn no_last() -> Last
+pub(crate) fn no_last() -> Last
     ensures { λ r. ⌜ r ≡ noLast ⌝ }
 {
     Last {

@@ -1,0 +1,63 @@
+// The program `bill`: reads a job file of at most 20,480 bytes from standard input, loads it onto a blank bench part, and
+// prints the bill; of a refusal only its answer line.
+use job::Bill;
+
+// One line: what it is, and the number.
+fn line(label: &[u8], n: u64) {
+    io::write_all(1, label);
+    io::print_decimal(1, n);
+    io::write_all(1, b"\n");
+}
+
+// The bill in whole: µs, µs, then counts; last the answer.
+fn print(b: Bill) {
+    line(b"saved ", b.saved);
+    line(b"spent ", b.spent);
+    line(b"erases ", b.erases);
+    line(b"programs ", b.programs);
+    line(b"polls ", b.polls);
+    line(b"scans ", b.scans);
+    line(b"confirms ", b.confirms);
+    line(b"sum ", b.sum as u64);
+    line(b"answer ", 0);
+}
+
+// The answer to a job file.
+fn answer(file: &[u8]) {
+    let asked = jobfile::read_job(file);
+    if 0 < asked.answer {
+        line(b"answer ", asked.answer as u64);
+        return;
+    }
+    let mut values = [0u16; 10240];
+    let count = asked.count;
+    if 10240 < count {
+        line(b"answer ", 13);
+        return;
+    }
+    jobfile::read_image(file, asked.start, &mut values[..count]);
+    let mut cells = [0xffffu16; 8192];
+    let b = job::load(
+        asked.part,
+        &mut cells,
+        asked.first,
+        &values[..count],
+        asked.wp,
+        asked.p,
+    );
+    if 0 < b.answer {
+        line(b"answer ", b.answer as u64);
+        return;
+    }
+    print(b);
+}
+
+fn main() {
+    let mut file = [0u8; 20481];
+    let n = io::read_full(0, &mut file);
+    if 20480 < n {
+        line(b"answer ", 13);
+        return;
+    }
+    answer(&file[..n]);
+}

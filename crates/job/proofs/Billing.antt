@@ -1,0 +1,117 @@
+-- What the two calls need of a job that is not refused, and what they hand back.
+use Prim.Native.Nat.{ℕ, _+_, _*_, _/_, _≤_, _<_}
+use mathlib.Core.Path.{_≡_, refl, sym, ap, ap₂, _∙_}
+use mathlib.Core.Bool.{Bool, true, false}
+use mathlib.Core.List.{List}
+use native.Mathlib.Nat.{div-le-self, le-refl, mul-le-mul}
+use native.Mathlib.Omega.{arith}
+use borrow.Author.Tests.{ltb-true, ltb-false}
+use lib.Dec.{eqb, ltb}
+use lib.ListN.{length, take, drop}
+use lib.Seq.{take-all}
+use Rattle.parts.specs.Pick.{pick}
+use Rattle.parts.specs.Width.{sectorSize}
+use Rattle.parts.specs.Table.{rowOf}
+use Rattle.parts.specs.Time.{timeOf, roundedUp, pollsOf}
+use Rattle.parts.specs.declared.table.Row.{Row}
+use Rattle.parts.proofs.Every.{split}
+use Rattle.parts.proofs.Sound.{width-most, cells-most, time-most}
+use Rattle.parts.proofs.Ranges.{sector-some}
+use Rattle.driver.proofs.Ready.{rounded-le}
+use Rattle.job.specs.declared.loader.Job.{Job}
+use Rattle.job.specs.declared.run.Held.{Held}
+use Rattle.job.specs.declared.bill.Bill.{Bill}
+use Rattle.job.specs.declared.bill.Report.{Report}
+use Rattle.job.specs.Kept.{Kept}
+use Rattle.job.specs.Total.{sumOf}
+use Rattle.job.specs.Refusal.{jobRefusal}
+use Rattle.job.specs.Run.{Sent, World, world, noneSent, playOf, runFrom}
+use Rattle.job.specs.Sent.{sentOf}
+use Rattle.job.specs.Bill.{Timed, jobOf, fullOf, firstFew, billOf, billed, reported, played, playedAll, Reported, reportOf, Loaded, loadOf}
+use Rattle.job.proofs.Accepts.{Passed, passed, sector-most}
+use Rattle.job.proofs.Runs.{runs}
+
+-- ---- a full job's time fits
+module _ (j : Job) (t : Timed j) where
+  polls-few : (command : ℕ) → timeOf (j .row) command ≤ 140000 → pollsOf (j .row) command (j .p) ≤ 140000
+  polls-few command h = omega (arith, rounded-le (timeOf (j .row) command) (j .p))
+
+  pub sectors-few : j .count / j .size ≤ 4194304
+  sectors-few = omega (arith, div-le-self (j .count) (j .size), t .count)
+
+  pub erases-fit : j .count / j .size * pollsOf (j .row) 1 (j .p) ≤ 4194304 * 140000
+  erases-fit = mul-le-mul sectors-few (polls-few 1 (t .erase))
+
+  pub programs-fit : j .count * pollsOf (j .row) 0 (j .p) ≤ 4194304 * 140000
+  programs-fit = mul-le-mul (t .count) (polls-few 0 (t .program))
+
+  both-fit : j .count / j .size * pollsOf (j .row) 1 (j .p) + j .count * pollsOf (j .row) 0 (j .p) ≤ 4194304 * 140000 + 4194304 * 140000
+  both-fit = omega (arith, erases-fit, programs-fit)
+
+  pub full-fits : fullOf j ≤ (4194304 * 140000 + 4194304 * 140000) * 1000
+  unfolding fullOf
+  full-fits = mul-le-mul both-fit (t .p)
+
+pub few-most : (k : ℕ) → firstFew k ≤ 2147483648
+few-most k = split (λ (n : ℕ). n ≤ 2147483648) (ltb 2147483648 k) 2147483648 k (λ _. le-refl 2147483648) (λ l. ltb-false 2147483648 k l)
+
+-- ---- a job that is not refused
+module _ (part first : ℕ) (image cells : List ℕ) (wp : Bool) (p : ℕ) (z : jobRefusal part (length cells) first image wp p ≡ 0) where
+  abbrev j : Job
+  j = jobOf part first (length image) wp p
+
+  ok : Passed part (length cells) first image wp p
+  ok = passed part (length cells) first image wp p z
+
+  pub range-fits : first + length image ≤ length cells
+  range-fits = omega (arith, ok .right .range, ok .whole)
+
+  pub image-few : first + length image ≤ 4194304
+  image-few = omega (arith, ok .right .range, cells-most part (ok .right .known))
+
+  pub kept : Kept j (length image)
+  kept = record { count = refl; range = image-few; some = sector-some (rowOf part .width); most = sector-most (rowOf part .width); narrow = width-most part (ok .right .known) }
+
+  pub timed : Timed j
+  timed =
+      record {
+        some = sector-some (rowOf part .width);
+        count = omega (arith, image-few);
+        p = ok .right .most;
+        erase = time-most part (ok .right .known) 1 (omega arith);
+        program = time-most part (ok .right .known) 0 (omega arith);
+      }
+
+  pub runs-first : (k : ℕ) → runFrom j image cells k ≡ played part cells first image wp p k
+  runs-first k = runs j image (ok .right) cells (ok .whole) (sector-some (rowOf part .width)) (sector-most (rowOf part .width)) k
+
+  -- no job sends more cycles than the limit
+  module _ (few : length (sentOf j image cells) ≤ 2147483648) where
+    take-few : (k : ℕ) → take (firstFew k) (sentOf j image cells) ≡ take k (sentOf j image cells)
+    take-few k =
+        split (λ (n : ℕ). take n (sentOf j image cells) ≡ take k (sentOf j image cells)) (ltb 2147483648 k) 2147483648 k
+        (λ l. take-all 2147483648 (sentOf j image cells) few ∙ sym (take-all k (sentOf j image cells) (omega (arith, ltb-true 2147483648 k l)))) (λ _. refl)
+
+    pub few-played : (k : ℕ) → runFrom j image cells (firstFew k) ≡ played part cells first image wp p k
+    few-played k = runs-first (firstFew k) ∙ ap (playOf part (world cells noneSent)) (take-few k)
+
+    pub reports : (k : ℕ) (h : Held) (cells′ : List ℕ) (r : Report) → h ≡ runFrom j image cells (firstFew k) .held → cells′ ≡ runFrom j image cells (firstFew k) .cells → r ≡ reported h
+        → (r ≡ reportOf part cells first image wp p k .report) × (cells′ ≡ reportOf part cells first image wp p k .cells)
+    unfolding reportOf
+    reports k h cells′ r qh qc qr =
+        rw z
+        (qr ∙ ap reported (qh ∙ ap (λ (w : World). w .held) (few-played k)), qc ∙ ap (λ (w : World). w .cells) (few-played k))
+
+  -- n cycles are all of them
+  module _ (n : ℕ) (few : length (sentOf j image cells) ≤ n) where
+    all-played : runFrom j image cells n ≡ playedAll part cells first image wp p
+    all-played = runs-first n ∙ ap (playOf part (world cells noneSent)) (take-all n (sentOf j image cells) few)
+
+    pub bills : (h : Held) (cells′ : List ℕ) (sum : ℕ) (b : Bill) → h ≡ runFrom j image cells n .held → cells′ ≡ runFrom j image cells n .cells
+        → sum ≡ sumOf (rowOf part .width) (take (length image) (drop first cells′)) → b ≡ billOf j (h .tally) sum
+        → (b ≡ loadOf part cells first image wp p .bill) × (cells′ ≡ loadOf part cells first image wp p .cells)
+    unfolding loadOf
+    bills h cells′ sum b qh qc qs qb =
+        let w : world cells′ h ≡ playedAll part cells first image wp p = ap₂ {A = List ℕ} {B = Held} {C = World} world qc qh ∙ all-played in
+        rw z
+        (qb ∙ (ap (billOf j (h .tally)) qs ∙ ap (billed part first image wp p) w), ap (λ (w : World). w .cells) w)

@@ -1,0 +1,95 @@
+use borrow.Author.Needs.{needs}
+use native.Mathlib.Omega.{arith}
+use mathlib.Core.Path.{_≡_, refl, ap, sym, _∙_}
+use Rattle.job.specs.Bill.{jobOf}
+use Rattle.job.specs.Total.{sumOf}
+use Prim.Native.Nat.{_+_, _-_}
+use Rattle.parts.specs.declared.table.Row.{Row}
+use Rattle.job.specs.declared.loader.Job.{Job}
+use Rattle.job.proofs.Billing.{image-few, range-fits, kept, timed, bills}
+use Rattle.parts.proofs.Rules.{tests}
+use Prim.Native.Nat.{ℕ, _+_, _-_, _*_, _/_, _≤_, _<_, _%_}
+use lib.ListN.{length, getD, take, drop, replicate}
+use borrow.Author.Tests.{eq-eqb, ne-eqb, lt-ltb, le-ltb, le-leb, lt-leb}
+use Rattle.job.specs.Bill.{loadOf}
+use Rattle.job.proofs.bill.load.Statement.{statement}
+use Rattle.job.proofs.bill.load.Tie as tie
+use Rattle.job.proofs.bill.load.Reads as reads
+use Rattle.job.proofs.bill.load.Lts as lts
+use Rattle.job.proofs.bill.job_of.Reads as job-of-reads
+use Rattle.job.proofs.bill.refused_bill.Reads as refused-bill-reads
+use Rattle.job.proofs.bill.write_bill.Reads as write-bill-reads
+use Rattle.job.proofs.refusal.job_refusal.Reads as job-refusal-reads
+use Rattle.job.proofs.run.run.Reads as run-reads
+use Rattle.job.proofs.total.sum.Reads as sum-reads
+
+job-refusal-requires : tie.Need-job-refusal-requires
+job-refusal-requires c κs = search needs
+
+refused-bill-requires : tie.Need-refused-bill-requires
+refused-bill-requires c κs = search needs
+
+returns : tie.Need-returns
+unfolding loadOf
+returns c = let n : c .before .before .job-refusal .result ≡ 0 → ⊥ = λ e. omega arith in simp (sym (c .before .before .job-refusal .ensures), ne-eqb (c .before .before .job-refusal .result) 0 n) (c .refused-bill .ensures, refl)
+
+cast-job-of : tie.Need-cast-job-of
+cast-job-of c = let z : c .before .job-refusal .result ≡ 0 = omega arith in omega (arith, image-few (c .before .before .before .before .args .part) (c .before .before .before .before .args .first) (c .before .before .before .before .args .image .now) (c .before .before .before .before .args .cells .now) (c .before .before .before .before .args .wp) (c .before .before .before .before .args .p) (sym (c .before .job-refusal .ensures) ∙ z))
+
+job-of-requires : tie.Need-job-of-requires
+job-of-requires c κs = search needs
+
+run-requires : tie.Need-run-requires
+run-requires c κs = let z : c .before .before .before .job-refusal .result ≡ 0 = omega arith in
+    rw (c .before .job-of .ensures) (kept (c .before .before .before .before .before .before .args .part) (c .before .before .before .before .before .before .args .first) (c .before .before .before .before .before .before .args .image .now) (c .before .before .before .before .before .before .args .cells .now) (c .before .before .before .before .before .before .args .wp) (c .before .before .before .before .before .before .args .p) (sym (c .before .before .before .job-refusal .ensures) ∙ z), search needs)
+
+add-end : tie.Need-add-end
+add-end c = let z : c .before .before .before .before .before .before .job-refusal .result ≡ 0 = omega arith in omega (arith, image-few (c .before .before .before .before .before .before .before .before .before .args .part) (c .before .before .before .before .before .before .before .before .before .args .first) (c .before .before .before .before .before .before .before .before .before .args .image .now) (c .before .before .before .before .before .before .before .before .before .args .cells .now) (c .before .before .before .before .before .before .before .before .before .args .wp) (c .before .before .before .before .before .before .before .before .before .args .p) (sym (c .before .before .before .before .before .before .job-refusal .ensures) ∙ z))
+
+mul-sum : tie.Need-mul-sum
+mul-sum c = search needs
+
+sub-sum : tie.Need-sub-sum
+sub-sum c = search needs
+
+part-sum-start : tie.Need-part-sum-start
+part-sum-start c = search needs
+
+part-sum-end : tie.Need-part-sum-end
+part-sum-end c = let z : c .before .before .before .before .before .before .before .job-refusal .result ≡ 0 = omega arith in omega (arith, range-fits (c .before .before .before .before .before .before .before .before .before .before .args .part) (c .before .before .before .before .before .before .before .before .before .before .args .first) (c .before .before .before .before .before .before .before .before .before .before .args .image .now) (c .before .before .before .before .before .before .before .before .before .before .args .cells .now) (c .before .before .before .before .before .before .before .before .before .before .args .wp) (c .before .before .before .before .before .before .before .before .before .before .args .p) (sym (c .before .before .before .before .before .before .before .job-refusal .ensures) ∙ z), c .before .before .before .run .kept .0)
+
+sum-requires : tie.Need-sum-requires
+sum-requires c κs = search needs
+
+write-bill-requires : tie.Need-write-bill-requires
+write-bill-requires c κs = let z : c .before .before .before .before .before .before .before .before .before .before .job-refusal .result ≡ 0 = omega arith in rw (c .before .before .before .before .before .before .before .before .job-of .ensures) (timed (c .before .before .before .before .before .before .before .before .before .before .before .before .before .args .part) (c .before .before .before .before .before .before .before .before .before .before .before .before .before .args .first) (c .before .before .before .before .before .before .before .before .before .before .before .before .before .args .image .now) (c .before .before .before .before .before .before .before .before .before .before .before .before .before .args .cells .now) (c .before .before .before .before .before .before .before .before .before .before .before .before .before .args .wp) (c .before .before .before .before .before .before .before .before .before .before .before .before .before .args .p) (sym (c .before .before .before .before .before .before .before .before .before .before .job-refusal .ensures) ∙ z))
+
+same-length : tie.Need-same-length
+same-length c = search needs
+
+returns-2 : tie.Need-returns-2
+returns-2 c = let g = c .before .before .before .before .before .before .before .before .before .before .before .before .before .before .args in
+    let z : c .before .before .before .before .before .before .before .before .before .before .before .job-refusal .result ≡ 0 = omega arith in
+    let e : g .first + length (g .image .now) - g .first ≡ length (g .image .now) = omega arith in
+    bills (g .part) (g .first) (g .image .now) (g .cells .now) (g .wp) (g .p) (sym (c .before .before .before .before .before .before .before .before .before .before .before .job-refusal .ensures) ∙ z) 2147483648 ? (c .before .before .before .before .before .before .before .run .result) (c .before .before .before .before .before .before .before .run .last .0) (c .before .before .sum .result) (c .write-bill .result)
+    (rw (c .before .before .before .before .before .before .before .before .before .job-of .ensures) at (c .before .before .before .before .before .before .before .run .ensures .0)) (rw (c .before .before .before .before .before .before .before .before .before .job-of .ensures) at (c .before .before .before .before .before .before .before .run .ensures .1)) (rw (c .before .before .before .before .before .before .before .before .before .job-of .ensures, e) at (c .before .before .sum .ensures)) (rw (c .before .before .before .before .before .before .before .before .before .job-of .ensures) at (c .write-bill .ensures))
+
+pub load-spec : {M : Type 1} → statement M
+load-spec =
+    tie.close
+    (tie.spec
+    job-refusal-requires
+    refused-bill-requires
+    returns
+    cast-job-of
+    job-of-requires
+    run-requires
+    add-end
+    mul-sum
+    sub-sum
+    part-sum-start
+    part-sum-end
+    sum-requires
+    write-bill-requires
+    same-length
+    returns-2)

@@ -1,0 +1,197 @@
+// The job, the second call, and the bill.
+use crate::loader::Job;
+use crate::refusal::job_refusal;
+use crate::run::Held;
+use crate::run::Last;
+use crate::run::Tally;
+use crate::run::no_last;
+use crate::run::run;
+use crate::total::sum;
+ghost use mathlib.Core.Path.{_≡_};
+ghost use Prim.Native.Nat.{_-_, _≤_, _<_};
+ghost use Rattle.job.specs.Bill.{Timed, billOf, firstFew, fullOf, jobOf, loadOf, refusedBill, refusedReport, reportOf, reported};
+
+// The bill: µs saved and spent, then counts, the sum, and 0 or the refusal.
+pub struct Bill {
+    pub saved: u64,
+    pub spent: u64,
+    pub erases: u64,
+    pub programs: u64,
+    pub polls: u64,
+    pub scans: u64,
+    pub confirms: u64,
+    pub sum: u16,
+    pub answer: u32,
+}
+
+// What the second call hands back: 0 or the refusal, how many cycles were sent, the last one and its reply, counts and µs so far.
+pub struct Report {
+    pub answer: u32,
+    pub sent: u64,
+    pub last: Last,
+    pub reply: u16,
+    pub erases: u64,
+    pub programs: u64,
+    pub polls: u64,
+    pub scans: u64,
+    pub confirms: u64,
+    pub time: u64,
+}
+
+// A job that was not refused.
+fn job_of(part: u32, first: u32, count: u32, wp: bool, p: u32) -> Job
+    ensures { λ r. ⌜ r ≡ jobOf part first count wp p ⌝ }
+{
+    let found = parts::part_row(part);
+    let row = found.row;
+    Job {
+        part,
+        row,
+        size: row.sector_size(),
+        first,
+        count,
+        wp,
+        p,
+    }
+}
+
+// The bill of a refusal.
+fn refused_bill(answer: u32) -> Bill
+    ensures { λ r. ⌜ r ≡ refusedBill answer ⌝ }
+{
+    Bill {
+        saved: 0,
+        spent: 0,
+        erases: 0,
+        programs: 0,
+        polls: 0,
+        scans: 0,
+        confirms: 0,
+        sum: 0,
+        answer,
+    }
+}
+
+// The report of a refusal.
+fn refused_report(answer: u32) -> Report
+    ensures { λ r. ⌜ r ≡ refusedReport answer ⌝ }
+{
+    Report {
+        answer,
+        sent: 0,
+        last: no_last(),
+        reply: 0,
+        erases: 0,
+        programs: 0,
+        polls: 0,
+        scans: 0,
+        confirms: 0,
+        time: 0,
+    }
+}
+
+// The report of what was sent.
+fn write_report(h: Held) -> Report
+    ensures { λ r. ⌜ r ≡ reported h ⌝ }
+{
+    let last = h.last;
+    let t = h.tally;
+    Report {
+        answer: 0,
+        sent: h.sent,
+        last,
+        reply: h.reply,
+        erases: t.erases,
+        programs: t.programs,
+        polls: t.polls,
+        scans: t.scans,
+        confirms: t.confirms,
+        time: t.time,
+    }
+}
+
+// The time of a full job: every sector erased and every cell programmed, each at N * p.
+fn full_time(job: Job) -> u64
+    requires { ⌜ Timed job ⌝ }
+    ensures { λ r. ⌜ r ≡ fullOf job ⌝ }
+{
+    let erase = parts::rounded_up(job.row.time(1), job.p);
+    let program = parts::rounded_up(job.row.time(0), job.p);
+    let sectors = job.count / job.size;
+    (sectors as u64 * erase as u64 + job.count as u64 * program as u64) * job.p as u64
+}
+
+// What is left of full once spent is taken away.
+fn left_of(full: u64, spent: u64) -> u64
+    ensures { λ r. ⌜ r ≡ full - spent ⌝ }
+{
+    if full < spent {
+        return 0;
+    }
+    full - spent
+}
+
+// The bill of a job's counts and sum.
+fn write_bill(job: Job, t: Tally, sum: u16) -> Bill
+    requires { ⌜ Timed job ⌝ }
+    ensures { λ r. ⌜ r ≡ billOf job t sum ⌝ }
+{
+    Bill {
+        saved: left_of(full_time(job), t.time),
+        spent: t.time,
+        erases: t.erases,
+        programs: t.programs,
+        polls: t.polls,
+        scans: t.scans,
+        confirms: t.confirms,
+        sum,
+        answer: 0,
+    }
+}
+
+// As many cycles as any job sends, or fewer.
+fn first_few(k: u64) -> u64
+    ensures { λ r. ⌜ r ≡ firstFew k ⌝ }
+{
+    if 2147483648 < k {
+        return 2147483648;
+    }
+    k
+}
+
+// The second call: sends only the first k cycles of the job, all if fewer.
+pub fn load_first(
+    part: u32,
+    cells: &mut [u16],
+    first: u32,
+    image: &[u16],
+    wp: bool,
+    p: u32,
+    k: u64,
+) -> Report
+    ensures { λ r. ⌜ (r ≡ reportOf part (now (cells .entry)) first (now (image .entry)) wp p k .report) × (now (cells .exit) ≡ reportOf part (now (cells .entry)) first (now (image .entry)) wp p k .cells) ⌝ }
+{
+    let answer = job_refusal(part, cells.len(), first, image, wp, p);
+    if 0 < answer {
+        return refused_report(answer);
+    }
+    let job = job_of(part, first, image.len() as u32, wp, p);
+    write_report(run(cells, job, image, first_few(k)))
+}
+
+// The job: loads the image from first on, and writes the bill.
+pub fn load(part: u32, cells: &mut [u16], first: u32, image: &[u16], wp: bool, p: u32) -> Bill
+    ensures { λ r. ⌜ (r ≡ loadOf part (now (cells .entry)) first (now (image .entry)) wp p .bill) × (now (cells .exit) ≡ loadOf part (now (cells .entry)) first (now (image .entry)) wp p .cells) ⌝ }
+{
+    let answer = job_refusal(part, cells.len(), first, image, wp, p);
+    if 0 < answer {
+        return refused_bill(answer);
+    }
+    let job = job_of(part, first, image.len() as u32, wp, p);
+    let held = run(&mut *cells, job, image, 2147483648);
+    let from = first as usize;
+    let end = from + image.len();
+    let total = sum(&cells[from..end], job.row.width);
+    let tally = held.tally;
+    write_bill(job, tally, total)
+}
