@@ -8,3 +8,4 @@ pub mod Right
 pub mod Left
 pub mod Clears
 pub mod Sectors
+pub mod Counts

@@ -5,3 +5,4 @@ pub mod Loader
 pub mod Kept
 pub mod Run
 pub mod Sent
+pub mod Formulas
