@@ -3,14 +3,19 @@ use Prim.Native.Nat.{ℕ, zero, suc, zero-le, _+_, _-_, _*_, _/_, _≤_, _<_}
 use mathlib.Core.Path.{_≡_, refl, sym, ap, _∙_}
 use mathlib.Core.Bool.{Bool, true, false}
 use mathlib.Core.List.{List, [], _∷_, _++_, map}
-use native.Mathlib.Nat.{le-refl, zero-mul, mul-add, mul-le-mul-right, div-add-mod', div-mul-le-self, add-zero, zero-add, add-assoc, le-add-right as up}
+use native.Mathlib.Nat.{le-refl, zero-mul, mul-add, mul-le-mul, mul-le-mul-left, mul-le-mul-right, le-mul-of-pos-right, div-add-mod', div-mul-le-self, add-zero, zero-add, add-assoc, le-add-right as up}
 use native.Mathlib.Omega.{arith}
-use lib.Dec.{eqb}
+use borrow.Author.Tests.{leb-true}
+use lib.Dec.{eqb, leb}
 use lib.ListN.{length, take, drop, replicate, take-append-drop, length-append, length-take, length-drop, length-replicate}
 use Rattle.parts.specs.Pick.{pick}
-use Rattle.parts.specs.Width.{valueOf, blankOf}
-use Rattle.parts.specs.Table.{rowOf}
-use Rattle.parts.proofs.Every.{split}
+use Rattle.parts.specs.Width.{valueOf, blankOf, sectorSize}
+use Rattle.parts.specs.Table.{lines, noLine, rowFrom, rowOf, partRefusal}
+use Rattle.parts.specs.Time.{timeOf}
+use Rattle.parts.specs.declared.table.Line.{Line}
+use Rattle.parts.proofs.Every.{split, both, at}
+use Rattle.parts.proofs.Sound.{known, cells-most}
+use Rattle.parts.proofs.Rounding.{least}
 use Rattle.chip.specs.declared.cycle.Action.{Action}
 use Rattle.driver.specs.Writes.{writesOf}
 use Rattle.job.specs.declared.loader.Job.{Job}
@@ -244,3 +249,37 @@ module _ (j : Job) where
   pub erased-most : (image cells : List ℕ) → Right j image → length cells ≡ rowOf (j .part) .cells → tallyOf (sentOf j image cells) .erases * j .size ≤ j .count
   erased-most image cells R full =
       omega (arith, mul-le-mul-right (j .size) (job-fair image cells R full .erases), div-mul-le-self (j .count) (j .size))
+
+-- ---- how many cycles a job has at most
+-- no known part takes more than 28 µs for a program and 36,000 for a sector erase
+quick : (n : ℕ) → partRefusal n ≡ 0 → (timeOf (rowOf n) 0 ≤ 28) × (timeOf (rowOf n) 1 ≤ 36000)
+unfolding rowOf timeOf
+quick n k =
+    let r = rowOf n in
+    let b = both (leb (r .program) 28) (leb (r .erase) 36000) (at test lines noLine refl n (omega (arith, known n k))) in
+    (leb-true (r .program) 28 (b .0), leb-true (r .erase) 36000 (b .1))
+  where
+    test : Line → Bool
+    test l = pick (leb (rowFrom l .program) 28) (leb (rowFrom l .erase) 36000) false
+
+-- a sector has 2,048 cells or more
+large : (w : ℕ) → 2048 ≤ sectorSize w
+unfolding sectorSize
+large w = split (λ (n : ℕ). 2048 ≤ n) (eqb w 8) 4096 2048 (λ _. omega arith) (λ _. omega arith)
+
+module _ (j : Job) (image : List ℕ) (R : Right j image) where
+  -- a poll is at least 1 µs: no more polls than µs
+  N-most : (command : ℕ) → N j command ≤ timeOf (rowOf (j .part)) command
+  N-most command =
+      rw (R .row) (least (timeOf (rowOf (j .part)) command) (j .p) (R .some) (timeOf (rowOf (j .part)) command) (le-mul-of-pos-right (timeOf (rowOf (j .part)) command) (R .some)))
+
+  pub length-most : (cells : List ℕ) → length cells ≡ rowOf (j .part) .cells → length (sentOf j image cells) ≤ 2147483648
+  length-most cells full =
+      let n = j .count / j .size in
+      let q = quick (j .part) (R .known) in
+      let c : j .count ≤ 4194304 = omega (arith, R .range, cells-most (j .part) (R .known)) in
+      let l : 2048 ≤ j .size = rw (R .size) (large (rowOf (j .part) .width)) in
+      let m : n ≤ 2048 = omega (arith, div-mul-le-self (j .count) (j .size), mul-le-mul-left n l) in
+      let e : n * (N j 1 + 7) ≤ 2048 * 36007 = mul-le-mul {m₂ = 36007} m (omega (arith, N-most 1)) in
+      let p : j .count * (N j 0 + 5) ≤ 4194304 * 33 = mul-le-mul {m₂ = 33} c (omega (arith, N-most 0)) in
+      omega (arith, cycles-most j _ _ _ _ _ (job-fair j image cells R full))
