@@ -11,3 +11,4 @@ pub mod Sectors
 pub mod Accepts
 pub mod Runs
 pub mod Billing
+pub mod Counts

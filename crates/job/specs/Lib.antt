@@ -6,3 +6,4 @@ pub mod Kept
 pub mod Run
 pub mod Sent
 pub mod Bill
+pub mod Formulas
