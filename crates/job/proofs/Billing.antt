@@ -30,6 +30,7 @@ use Rattle.job.specs.Sent.{sentOf}
 use Rattle.job.specs.Bill.{Timed, jobOf, fullOf, firstFew, billOf, billed, reported, played, playedAll, Reported, reportOf, Loaded, loadOf}
 use Rattle.job.proofs.Accepts.{Passed, passed, sector-most}
 use Rattle.job.proofs.Runs.{runs}
+use Rattle.job.proofs.Counts.{length-most}
 
 -- ---- a full job's time fits
 module _ (j : Job) (t : Timed j) where
@@ -82,10 +83,14 @@ module _ (part first : ℕ) (image cells : List ℕ) (wp : Bool) (p : ℕ) (z : 
         program = time-most part (ok .right .known) 0 (omega arith);
       }
 
+  -- no job sends more cycles than the limit
+  pub few-sent : length (sentOf j image cells) ≤ 2147483648
+  few-sent = length-most j image (ok .right) cells (ok .whole)
+
   pub runs-first : (k : ℕ) → runFrom j image cells k ≡ played part cells first image wp p k
   runs-first k = runs j image (ok .right) cells (ok .whole) (sector-some (rowOf part .width)) (sector-most (rowOf part .width)) k
 
-  -- no job sends more cycles than the limit
+  -- k cycles, or as many as the limit allows
   module _ (few : length (sentOf j image cells) ≤ 2147483648) where
     take-few : (k : ℕ) → take (firstFew k) (sentOf j image cells) ≡ take k (sentOf j image cells)
     take-few k =

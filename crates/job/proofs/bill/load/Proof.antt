@@ -6,7 +6,7 @@ use Rattle.job.specs.Total.{sumOf}
 use Prim.Native.Nat.{_+_, _-_}
 use Rattle.parts.specs.declared.table.Row.{Row}
 use Rattle.job.specs.declared.loader.Job.{Job}
-use Rattle.job.proofs.Billing.{image-few, range-fits, kept, timed, bills}
+use Rattle.job.proofs.Billing.{image-few, range-fits, kept, timed, few-sent, bills}
 use Rattle.parts.proofs.Rules.{tests}
 use Prim.Native.Nat.{ℕ, _+_, _-_, _*_, _/_, _≤_, _<_, _%_}
 use lib.ListN.{length, getD, take, drop, replicate}
@@ -71,7 +71,7 @@ returns-2 : tie.Need-returns-2
 returns-2 c = let g = c .before .before .before .before .before .before .before .before .before .before .before .before .before .before .args in
     let z : c .before .before .before .before .before .before .before .before .before .before .before .job-refusal .result ≡ 0 = omega arith in
     let e : g .first + length (g .image .now) - g .first ≡ length (g .image .now) = omega arith in
-    bills (g .part) (g .first) (g .image .now) (g .cells .now) (g .wp) (g .p) (sym (c .before .before .before .before .before .before .before .before .before .before .before .job-refusal .ensures) ∙ z) 2147483648 ? (c .before .before .before .before .before .before .before .run .result) (c .before .before .before .before .before .before .before .run .last .0) (c .before .before .sum .result) (c .write-bill .result)
+    bills (g .part) (g .first) (g .image .now) (g .cells .now) (g .wp) (g .p) (sym (c .before .before .before .before .before .before .before .before .before .before .before .job-refusal .ensures) ∙ z) 2147483648 (few-sent (g .part) (g .first) (g .image .now) (g .cells .now) (g .wp) (g .p) (sym (c .before .before .before .before .before .before .before .before .before .before .before .job-refusal .ensures) ∙ z)) (c .before .before .before .before .before .before .before .run .result) (c .before .before .before .before .before .before .before .run .last .0) (c .before .before .sum .result) (c .write-bill .result)
     (rw (c .before .before .before .before .before .before .before .before .before .job-of .ensures) at (c .before .before .before .before .before .before .before .run .ensures .0)) (rw (c .before .before .before .before .before .before .before .before .before .job-of .ensures) at (c .before .before .before .before .before .before .before .run .ensures .1)) (rw (c .before .before .before .before .before .before .before .before .before .job-of .ensures, e) at (c .before .before .sum .ensures)) (rw (c .before .before .before .before .before .before .before .before .before .job-of .ensures) at (c .write-bill .ensures))
 
 pub load-spec : {M : Type 1} → statement M

@@ -1,7 +1,7 @@
 use borrow.Author.Needs.{needs}
 use native.Mathlib.Omega.{arith}
 use mathlib.Core.Path.{_≡_, refl, ap, sym, _∙_}
-use Rattle.job.proofs.Billing.{image-few, kept, few-most, reports}
+use Rattle.job.proofs.Billing.{image-few, kept, few-most, few-sent, reports}
 use Rattle.parts.proofs.Rules.{tests}
 use Prim.Native.Nat.{ℕ, _+_, _-_, _*_, _/_, _≤_, _<_, _%_}
 use lib.ListN.{length, getD, take, drop, replicate}
@@ -49,7 +49,7 @@ same-length c = search needs
 
 returns-2 : tie.Need-returns-2
 returns-2 c = let z : c .before .before .before .before .before .before .before .before .job-refusal .result ≡ 0 = omega arith in
-    reports (c .before .before .before .before .before .before .before .before .before .before .before .args .part) (c .before .before .before .before .before .before .before .before .before .before .before .args .first) (c .before .before .before .before .before .before .before .before .before .before .before .args .image .now) (c .before .before .before .before .before .before .before .before .before .before .before .args .cells .now) (c .before .before .before .before .before .before .before .before .before .before .before .args .wp) (c .before .before .before .before .before .before .before .before .before .before .before .args .p) (sym (c .before .before .before .before .before .before .before .before .job-refusal .ensures) ∙ z) ? (c .before .before .before .before .before .before .before .before .before .before .before .args .k) (c .before .before .before .run .result) (c .before .before .before .run .last .0) (c .write-report .result)
+    reports (c .before .before .before .before .before .before .before .before .before .before .before .args .part) (c .before .before .before .before .before .before .before .before .before .before .before .args .first) (c .before .before .before .before .before .before .before .before .before .before .before .args .image .now) (c .before .before .before .before .before .before .before .before .before .before .before .args .cells .now) (c .before .before .before .before .before .before .before .before .before .before .before .args .wp) (c .before .before .before .before .before .before .before .before .before .before .before .args .p) (sym (c .before .before .before .before .before .before .before .before .job-refusal .ensures) ∙ z) (few-sent (c .before .before .before .before .before .before .before .before .before .before .before .args .part) (c .before .before .before .before .before .before .before .before .before .before .before .args .first) (c .before .before .before .before .before .before .before .before .before .before .before .args .image .now) (c .before .before .before .before .before .before .before .before .before .before .before .args .cells .now) (c .before .before .before .before .before .before .before .before .before .before .before .args .wp) (c .before .before .before .before .before .before .before .before .before .before .before .args .p) (sym (c .before .before .before .before .before .before .before .before .job-refusal .ensures) ∙ z)) (c .before .before .before .before .before .before .before .before .before .before .before .args .k) (c .before .before .before .run .result) (c .before .before .before .run .last .0) (c .write-report .result)
     (rw (c .before .before .before .before .before .before .job-of .ensures, c .before .before .before .before .first-few .ensures) at (c .before .before .before .run .ensures .0)) (rw (c .before .before .before .before .before .before .job-of .ensures, c .before .before .before .before .first-few .ensures) at (c .before .before .before .run .ensures .1)) (c .write-report .ensures)
 
 pub load-first-spec : {M : Type 1} → statement M
