@@ -239,17 +239,23 @@ impl Driver {
         }
     }
 
+    // A read of the operation's address.
+    fn look(self) -> Action
+        ensures { λ r. ⌜ r ≡ Action.Read (addressOf (self .command) (self .address)) ⌝ }
+    {
+        Action::Read(address_of(self.command, self.address))
+    }
+
     // Names one more poll.
     fn poll(self) -> Step
         requires { ⌜ self .count < 280000 ⌝ }
         ensures { λ r. ⌜ r ≡ polls self ⌝ }
     {
         let n = self.count + 1;
-        let action = Action::Read(address_of(self.command, self.address));
         Step {
             answer: 0,
             driver: self.moved_to(Phase::Polling, n),
-            next: Next::Send(self.p, action),
+            next: Next::Send(self.p, self.look()),
             polls: n,
         }
     }
@@ -258,13 +264,12 @@ impl Driver {
     fn confirm(self) -> Step
         ensures { λ r. ⌜ r ≡ confirms self ⌝ }
     {
-        let n = self.count;
-        let action = Action::Read(address_of(self.command, self.address));
+        let polls = self.count;
         Step {
             answer: 0,
-            driver: self.moved_to(Phase::Confirming, n),
-            next: Next::Send(0, action),
-            polls: n,
+            driver: self.moved_to(Phase::Confirming, polls),
+            next: Next::Send(0, self.look()),
+            polls,
         }
     }
 
