@@ -230,11 +230,11 @@ impl Driver {
         ensures { λ r. ⌜ r ≡ writingOf row self ⌝ }
     {
         let w = nth_write(row, self.command, self.address, self.data, self.count);
-        let action = Action::Write(w.address, w.data);
+        let write = Action::Write(w.address, w.data);
         Step {
             answer: 0,
             driver: self.after_write(),
-            next: Next::Send(0, action),
+            next: Next::Send(0, write),
             polls: 0,
         }
     }
@@ -252,10 +252,11 @@ impl Driver {
         ensures { λ r. ⌜ r ≡ polls self ⌝ }
     {
         let n = self.count + 1;
+        let action = self.look();
         Step {
             answer: 0,
             driver: self.moved_to(Phase::Polling, n),
-            next: Next::Send(self.p, self.look()),
+            next: Next::Send(self.p, action),
             polls: n,
         }
     }
@@ -265,10 +266,11 @@ impl Driver {
         ensures { λ r. ⌜ r ≡ confirms self ⌝ }
     {
         let polls = self.count;
+        let action = self.look();
         Step {
             answer: 0,
             driver: self.moved_to(Phase::Confirming, polls),
-            next: Next::Send(0, self.look()),
+            next: Next::Send(0, action),
             polls,
         }
     }

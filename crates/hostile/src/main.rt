@@ -5,7 +5,7 @@ use driver::Driver;
 use driver::Next;
 
 // A command as it is started, and the value that its confirming read must equal.
-struct Asked {
+struct Task {
     part: u32,
     command: u32,
     address: u32,
@@ -55,10 +55,10 @@ fn show(n: u32) {
 }
 
 // Prints the line of a run.
-fn print_run(a: Asked, replies: u32, cycles: u32, answer: u32, polls: u32, end: Driver) {
+fn print_run(t: Task, replies: u32, cycles: u32, answer: u32, polls: u32, end: Driver) {
     let again = end.step(0x1234);
-    io::print_decimal(1, a.part as u64);
-    show(a.command);
+    io::print_decimal(1, t.part as u64);
+    show(t.command);
     show(replies);
     show(answer);
     show(cycles);
@@ -69,8 +69,8 @@ fn print_run(a: Asked, replies: u32, cycles: u32, answer: u32, polls: u32, end: 
 }
 
 // Runs a command against replies until the driver names nothing: the longest run has 280,007 cycles.
-fn run(a: Asked, replies: u32) {
-    let started = driver::start(a.part, a.command, a.address, a.data, a.p);
+fn run(t: Task, replies: u32) {
+    let started = driver::start(t.part, t.command, t.address, t.data, t.p);
     let mut d = started.driver;
     let mut read: u16 = 0;
     let mut n: u32 = 0;
@@ -79,27 +79,27 @@ fn run(a: Asked, replies: u32) {
         let next = s.next;
         d = s.driver;
         if is_nothing(next) {
-            print_run(a, replies, n, s.answer, s.polls, d);
+            print_run(t, replies, n, s.answer, s.polls, d);
             return;
         }
-        read = reply(replies, a.wanted, n);
+        read = reply(replies, t.wanted, n);
         n += 1;
     }
     io::write_all(1, b"no end\n");
 }
 
 // Runs a command against each kind of replies.
-fn run_all(a: Asked) {
-    run(a, 0);
-    run(a, 1);
-    run(a, 2);
-    run(a, 3);
-    run(a, 4);
-    run(a, 5);
+fn run_all(t: Task) {
+    run(t, 0);
+    run(t, 1);
+    run(t, 2);
+    run(t, 3);
+    run(t, 4);
+    run(t, 5);
 }
 
-fn asked(part: u32, command: u32, address: u32, data: u16, p: u32, wanted: u16) -> Asked {
-    Asked {
+fn task_of(part: u32, command: u32, address: u32, data: u16, p: u32, wanted: u16) -> Task {
+    Task {
         part,
         command,
         address,
@@ -110,13 +110,13 @@ fn asked(part: u32, command: u32, address: u32, data: u16, p: u32, wanted: u16) 
 }
 
 fn main() {
-    run_all(asked(0, 0, 5, 0x1234, 10, 0x1234));
-    run_all(asked(3, 0, 524287, 0x80, 1, 0x80));
-    run_all(asked(5, 0, 0, 0xffff, 7, 0xffff));
-    run_all(asked(9, 1, 2053, 0, 1000, 0xffff));
-    run_all(asked(7, 2, 40000, 0, 100, 0xffff));
-    run_all(asked(1, 3, 0xffffffff, 0xffff, 13, 0xff));
-    run_all(asked(8, 3, 0, 0, 1, 0xffff));
-    run(asked(11, 0, 0, 0, 1, 0), 5);
-    run(asked(3, 2, 0, 0, 1, 0), 5);
+    run_all(task_of(0, 0, 5, 0x1234, 10, 0x1234));
+    run_all(task_of(3, 0, 524287, 0x80, 1, 0x80));
+    run_all(task_of(5, 0, 0, 0xffff, 7, 0xffff));
+    run_all(task_of(9, 1, 2053, 0, 1000, 0xffff));
+    run_all(task_of(7, 2, 40000, 0, 100, 0xffff));
+    run_all(task_of(1, 3, 0xffffffff, 0xffff, 13, 0xff));
+    run_all(task_of(8, 3, 0, 0, 1, 0xffff));
+    run(task_of(11, 0, 0, 0, 1, 0), 5);
+    run(task_of(3, 2, 0, 0, 1, 0), 5);
 }

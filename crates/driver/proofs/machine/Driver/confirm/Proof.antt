@@ -3,14 +3,14 @@ use borrow.Author.Needs.{needs}
 use Rattle.driver.proofs.machine.Driver.confirm.Statement.{statement}
 use Rattle.driver.proofs.machine.Driver.confirm.Tie as tie
 
-moved-to-requires : tie.Need-moved-to-requires
-moved-to-requires c κs = search needs
-
 look-requires : tie.Need-look-requires
 look-requires c κs = search needs
 
+moved-to-requires : tie.Need-moved-to-requires
+moved-to-requires c κs = search needs
+
 returns : tie.Need-returns
-returns c = simp (c .look .ensures, c .before .moved-to .ensures)
+returns c = simp (c .before .look .ensures, c .moved-to .ensures)
 
 pub confirm-spec : {M : Type 1} → statement M
-confirm-spec = tie.close (tie.spec moved-to-requires look-requires returns)
+confirm-spec = tie.close (tie.spec look-requires moved-to-requires returns)
