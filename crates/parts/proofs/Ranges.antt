@@ -56,7 +56,7 @@ range-inside small large a s l z =
     (omega (arith, f, mul-le-mul-right small lo), omega (arith, e, f, add-mul (a / large * m) m small, suc-mul (a / small) small, mul-le-mul-right small hi))
 
 -- ---- sectors
-sector-some : (w : ℕ) → 0 < sectorSize w
+pub sector-some : (w : ℕ) → 0 < sectorSize w
 unfolding sectorSize
 sector-some w = split (λ (n : ℕ). 0 < n) (eqb w 8) 4096 2048 (λ _. omega arith) (λ _. omega arith)
 

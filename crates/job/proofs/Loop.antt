@@ -1,0 +1,101 @@
+-- A turn of the run's loop, and its ends; the counts stay within the number of cycles sent.
+use Prim.Native.Nat.{ℕ, zero, suc, zero-le, _+_, _-_, _*_, _≤_, _<_}
+use mathlib.Core.Path.{_≡_, refl, sym, ap, ap₂, _∙_}
+use mathlib.Core.List.{List}
+use native.Mathlib.Nat.{le-refl}
+use native.Mathlib.Omega.{arith}
+use lib.Dec.{eqb}
+use lib.ListN.{replicate}
+use Rattle.parts.proofs.Every.{split}
+use Rattle.chip.specs.declared.cycle.Cycle.{Cycle}
+use Rattle.job.specs.declared.loader.Job.{Job}
+use Rattle.job.specs.declared.loader.Loader.{Loader}
+use Rattle.job.specs.declared.loader.Purpose.{Purpose}
+use Rattle.job.specs.declared.loader.Purpose.the-variants.{Scan, Lead, Begin, Poll, Confirm}
+use Rattle.job.specs.declared.loader.Turn.{Turn}
+use Rattle.job.specs.declared.loader.Turn.the-variants.{Play, Stop}
+use Rattle.job.specs.declared.run.Tally.{Tally}
+use Rattle.job.specs.declared.run.Held.{Held}
+use Rattle.job.specs.Loader.{Turned, turned, firstOf, turnOf}
+use Rattle.job.specs.Kept.{Counts}
+use Rattle.job.specs.Run.{World, world, noneSent, countedOf, sendOf, runOf, runFrom}
+
+-- ---- counts
+pub counts-up : (t : Tally) (m n : ℕ) → m ≤ n → Counts t m → Counts t n
+counts-up t m n h w =
+    record {
+      erases = omega (arith, w .erases);
+      programs = omega (arith, w .programs);
+      polls = omega (arith, w .polls);
+      scans = omega (arith, w .scans);
+      confirms = omega (arith, w .confirms);
+      time = omega (arith, w .time);
+    }
+
+up : {m : ℕ} → m ≤ m + 1
+up {m} = omega arith
+
+module _ (t : Tally) (n e : ℕ) (w : Counts t n) (short : e ≤ 4294967295) where
+  -- counts that are each at most one more
+  more : (t′ : Tally) → t′ .erases ≤ t .erases + 1 → t′ .programs ≤ t .programs + 1 → t′ .polls ≤ t .polls + 1 → t′ .scans ≤ t .scans + 1 → t′ .confirms ≤ t .confirms + 1
+      → t′ .time ≡ t .time + e → Counts t′ (n + 1)
+  more t′ a b c d f g =
+      counts (omega (arith, w .erases)) (omega (arith, w .programs)) (omega (arith, w .polls)) (omega (arith, w .scans)) (omega (arith, w .confirms)) (omega (arith, w .time))
+    where
+      counts : t′ .erases ≤ n + 1 → t′ .programs ≤ n + 1 → t′ .polls ≤ n + 1 → t′ .scans ≤ n + 1 → t′ .confirms ≤ n + 1 → t′ .time ≤ (n + 1) * 4294967295 → Counts t′ (n + 1)
+      counts a b c d f g = record { erases = a; programs = b; polls = c; scans = d; confirms = f; time = g }
+
+  pub counted-counts : (p : Purpose) → Counts (countedOf t p e) (n + 1)
+  counted-counts Scan = more _ up up up (le-refl _) up refl
+  counted-counts Lead = more _ up up up up up refl
+  counted-counts (Begin c) = split (λ (t : Tally). Counts t (n + 1)) (eqb c 0) _ _ (λ _. more _ up (le-refl _) up up up refl) (λ _. more _ (le-refl _) up up up up refl)
+  counted-counts Poll = more _ up up (le-refl _) up up refl
+  counted-counts Confirm = more _ up up up up (le-refl _) refl
+
+-- ---- the loop
+module _ (j : Job) (image : List ℕ) where
+  -- nothing sent, the first sector's first read
+  pub starts : (k : ℕ) (t : Turn) (cells : List ℕ) (h : Held) → h ≡ noneSent → t ≡ firstOf j 0
+      → (h .sent ≤ k) × (Counts (h .tally) (h .sent) × (runOf j image (k - h .sent) (turned (replicate 4096 0) t) (world cells h) ≡ runFrom j image cells k))
+  starts k t cells h e f =
+      let z : k - 0 ≡ k = omega arith in
+      rw (e, f) (zero-le, (record { erases = zero-le; programs = zero-le; polls = zero-le; scans = zero-le; confirms = zero-le; time = zero-le }, rw z))
+
+  again : (k n : ℕ) (seen seen′ : List ℕ) (t t′ : Turn) (l : Loader) (p : Purpose) (c : Cycle) (cells cells′ : List ℕ) (h h′ : Held) (P : World) → n < k → t ≡ Play l p c
+      → h′ ≡ sendOf (j .part) (world cells h) p c .held → cells′ ≡ sendOf (j .part) (world cells h) p c .cells
+      → t′ ≡ turnOf j image seen l (h′ .reply) .turn → seen′ ≡ turnOf j image seen l (h′ .reply) .seen
+      → runOf j image (k - n) (turned seen t) (world cells h) ≡ P → runOf j image (k - (n + 1)) (turned seen′ t′) (world cells′ h′) ≡ P
+  again k n seen seen′ t t′ l p c cells cells′ h h′ P lt e qh qc qt qs r =
+      let i : k - n ≡ suc (k - (n + 1)) = omega arith in
+      let w : world cells′ h′ ≡ sendOf (j .part) (world cells h) p c = ap₂ {A = List ℕ} {B = Held} {C = World} world qc qh in
+      let m : turned seen′ t′ ≡ turnOf j image seen l (h′ .reply) = ap₂ {A = List ℕ} {B = Turn} {C = Turned} turned qs qt in
+      let x : turnOf j image seen l (h′ .reply) ≡ turnOf j image seen l (sendOf (j .part) (world cells h) p c .held .reply) = ap (λ (h : Held). turnOf j image seen l (h .reply)) qh in
+      ap₂ {A = Turned} {B = World} {C = World} (runOf j image (k - (n + 1))) (m ∙ x) w ∙ (rw (i, e) at r)
+
+  -- a turn
+  pub turns : (k : ℕ) (seen seen′ : List ℕ) (t t′ : Turn) (l : Loader) (p : Purpose) (c : Cycle) (cells cells′ : List ℕ) (h h′ : Held) (P : World) → h .sent < k → t ≡ Play l p c
+      → h′ ≡ sendOf (j .part) (world cells h) p c .held → cells′ ≡ sendOf (j .part) (world cells h) p c .cells
+      → t′ ≡ turnOf j image seen l (h′ .reply) .turn → seen′ ≡ turnOf j image seen l (h′ .reply) .seen
+      → c .elapsed ≤ 4294967295 → Counts (h .tally) (h .sent) → runOf j image (k - h .sent) (turned seen t) (world cells h) ≡ P
+      → (h′ .sent ≤ k) × (Counts (h′ .tally) (h′ .sent) × (runOf j image (k - h′ .sent) (turned seen′ t′) (world cells′ h′) ≡ P))
+  unfolding sendOf
+  turns k seen seen′ t t′ l p c cells cells′ h h′ P lt e qh qc qt qs short w r =
+      let s : h′ .sent ≡ h .sent + 1 = ap (λ (h : Held). h .sent) qh in
+      let y : h′ .tally ≡ countedOf (h .tally) p (c .elapsed) = ap (λ (h : Held). h .tally) qh in
+      let z : k - h′ .sent ≡ k - (h .sent + 1) = ap (λ (n : ℕ). k - n) s in
+      let n : Counts (h′ .tally) (h′ .sent) = rw (y, s) (counted-counts (h .tally) (h .sent) (c .elapsed) w short p) in
+      (omega arith, (n, rw z (again k (h .sent) seen seen′ t t′ l p c cells cells′ h h′ P lt e qh qc qt qs r)))
+
+  pub stopped : (k n : ℕ) (seen : List ℕ) (t : Turn) (w P : World) → t ≡ Stop n → runOf j image k (turned seen t) w ≡ P → w ≡ P
+  stopped zero n seen t w P e r = r
+  stopped (suc k) n seen t w P e r = rw e at r
+
+  pub passed : (k n : ℕ) (t : Turned) (w P : World) → k ≤ n → runOf j image (k - n) t w ≡ P → w ≡ P
+  passed k n t w P le r =
+      let z : k - n ≡ 0 = omega arith in
+      rw z at r
+
+-- a cycle more is sent
+pub one-more : (part : ℕ) (w : World) (p : Purpose) (c : Cycle) → sendOf part w p c .held .sent ≡ w .held .sent + 1
+unfolding sendOf
+one-more part w p c = refl

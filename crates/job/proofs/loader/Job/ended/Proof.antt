@@ -1,0 +1,17 @@
+-- `job::loader::Job::ended` meets its contract.
+use borrow.Author.Needs.{needs}
+use borrow.Author.Tests.{eq-eqb, ne-eqb}
+use Rattle.job.proofs.loader.Job.ended.Statement.{statement}
+use Rattle.job.proofs.loader.Job.ended.Tie as tie
+
+then-requires : tie.Need-then-requires
+then-requires c κs = search needs
+
+returns : tie.Need-returns
+returns c = simp (eq-eqb _ _ (c .before .if1 .taken)) (c .then .ensures)
+
+returns-2 : tie.Need-returns-2
+returns-2 c = simp (ne-eqb _ _ (c .if1 .left))
+
+pub ended-spec : {M : Type 1} → statement M
+ended-spec = tie.close (tie.spec then-requires returns returns-2)

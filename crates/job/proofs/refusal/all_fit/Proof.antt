@@ -1,0 +1,59 @@
+-- `job::refusal::all_fit` meets its contract.
+use Prim.Native.Nat.{_-_, _≤_}
+use mathlib.Core.Path.{_≡_, sym, _∙_}
+use lib.ListN.{length, drop}
+use borrow.Author.Needs.{needs}
+use borrow.Author.Tests.{not-true, not-false}
+use Rattle.job.specs.Refusal.{fitAll}
+use Rattle.job.proofs.Turns.{fit-more, fit-ends, fit-none}
+use Rattle.job.proofs.refusal.all_fit.Statement.{statement}
+use Rattle.job.proofs.refusal.all_fit.Tie as tie
+
+abbrev Inv-loop : tie.InvT-loop
+Inv-loop width image i₀ i = (i ≤ length image) × (fitAll width image ≡ fitAll width (drop i image))
+
+abbrev μ-loop : tie.MeasureT-loop
+μ-loop width image i₀ i = length image - i
+
+loop-holds : tie.Need-loop-holds Inv-loop μ-loop
+loop-holds c = search needs
+
+mul-fits : tie.Need-mul-fits Inv-loop μ-loop
+mul-fits c = search needs
+
+shared-slice-read-fits : tie.Need-shared-slice-read-fits Inv-loop μ-loop
+shared-slice-read-fits c = search needs
+
+fits-requires : tie.Need-fits-requires Inv-loop μ-loop
+fits-requires c κs = search needs
+
+returns : tie.Need-returns Inv-loop μ-loop
+returns c = sym (c .before .before .before .before .loop .inv .1 ∙ fit-ends (c .before .before .before .before .before .before .args .width) (c .before .before .before .before .before .before .args .image .now) (c .before .before .before .before .loop .i) (search needs) (sym (c .before .fits2 .ensures) ∙ not-true _ (c .if1 .taken)))
+
+add-i : tie.Need-add-i Inv-loop μ-loop
+add-i c = search needs
+
+loop-less : tie.Need-loop-less Inv-loop μ-loop
+loop-less c = search needs
+
+loop-again : tie.Need-loop-again Inv-loop μ-loop
+loop-again c = (search needs, c .before .before .before .before .loop .inv .1 ∙ fit-more (c .before .before .before .before .before .before .args .width) (c .before .before .before .before .before .before .args .image .now) (c .before .before .before .before .loop .i) (search needs) (sym (c .before .fits2 .ensures) ∙ not-false _ (c .if1 .left)))
+
+returns-2 : tie.Need-returns-2 Inv-loop μ-loop
+returns-2 c = sym (c .before .loop .inv .1 ∙ fit-none (c .before .before .before .args .width) (c .before .before .before .args .image .now) (c .before .loop .i) (search needs))
+
+pub all-fit-spec : {M : Type 1} → statement M
+all-fit-spec =
+    tie.close
+    (tie.spec
+    Inv-loop
+    μ-loop
+    loop-holds
+    mul-fits
+    shared-slice-read-fits
+    fits-requires
+    returns
+    add-i
+    loop-less
+    loop-again
+    returns-2)

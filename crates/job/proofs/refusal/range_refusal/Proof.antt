@@ -1,0 +1,76 @@
+-- `job::refusal::range_refusal` meets its contract.
+use Prim.Native.Nat.{_+_}
+use mathlib.Core.Path.{sym, _∙_}
+use native.Mathlib.Omega.{arith}
+use lib.ListN.{length}
+use borrow.Author.Needs.{needs}
+use borrow.Author.Tests.{lt-ltb, le-ltb, not-true, not-false, leb-true}
+use Rattle.job.specs.Refusal.{rangeRefusal}
+use Rattle.parts.proofs.Ranges.{sector-some}
+use Rattle.job.proofs.refusal.range_refusal.Statement.{statement}
+use Rattle.job.proofs.refusal.range_refusal.Tie as tie
+
+sector-size-requires : tie.Need-sector-size-requires
+sector-size-requires c κs = search needs
+
+cast-size : tie.Need-cast-size
+cast-size c = search needs
+
+rem-if1 : tie.Need-rem-if1
+unfolding rangeRefusal
+rem-if1 c = let e = c .sector-size .ensures in omega (arith, e, sector-some (c .before .before .args .row .width))
+
+returns : tie.Need-returns
+unfolding rangeRefusal
+returns c = let e = c .before .sector-size .ensures in simp (sym e, lt-ltb _ _ (c .if1 .taken))
+
+rem-if2 : tie.Need-rem-if2
+unfolding rangeRefusal
+rem-if2 c = let e = c .before .sector-size .ensures in omega (arith, e, sector-some (c .before .before .before .args .row .width))
+
+returns-2 : tie.Need-returns-2
+unfolding rangeRefusal
+returns-2 c = let e = c .before .before .sector-size .ensures in simp (sym e, le-ltb _ _ (c .before .if1 .left), lt-ltb _ _ (c .if2 .taken))
+
+cast-within : tie.Need-cast-within
+cast-within c = search needs
+
+within-requires : tie.Need-within-requires
+within-requires c κs = search needs
+
+returns-3 : tie.Need-returns-3
+unfolding rangeRefusal
+returns-3 c = let e = c .before .before .before .before .before .sector-size .ensures in simp (sym e, le-ltb _ _ (c .before .before .before .before .if1 .left), le-ltb _ _ (c .before .before .before .if2 .left), sym (c .before .within .ensures) ∙ not-true _ (c .if3 .taken))
+
+all-fit-requires : tie.Need-all-fit-requires
+all-fit-requires c κs = search needs
+
+returns-4 : tie.Need-returns-4
+unfolding rangeRefusal
+returns-4 c = let e = c .before .before .before .before .before .before .before .sector-size .ensures in simp (sym e, le-ltb _ _ (c .before .before .before .before .before .before .if1 .left), le-ltb _ _ (c .before .before .before .before .before .if2 .left), sym (c .before .before .before .within .ensures) ∙ not-false _ (c .before .before .if3 .left), sym (c .before .all-fit .ensures) ∙ not-true _ (c .if4 .taken))
+
+protection-refusal-requires : tie.Need-protection-refusal-requires
+unfolding rangeRefusal
+protection-refusal-requires c κs = let h = leb-true (c .before .before .before .before .before .before .before .before .before .args .first + length (c .before .before .before .before .before .before .before .before .before .args .image .now)) (c .before .before .before .before .before .before .before .before .before .args .row .cells) (sym (c .before .before .before .within .ensures) ∙ not-false _ (c .before .before .if3 .left)) in omega arith
+
+returns-5 : tie.Need-returns-5
+unfolding rangeRefusal
+returns-5 c = let e = c .before .before .before .before .before .before .before .before .sector-size .ensures in simp (sym e, le-ltb _ _ (c .before .before .before .before .before .before .before .if1 .left), le-ltb _ _ (c .before .before .before .before .before .before .if2 .left), sym (c .before .before .before .before .within .ensures) ∙ not-false _ (c .before .before .before .if3 .left), sym (c .before .before .all-fit .ensures) ∙ not-false _ (c .before .if4 .left)) (c .protection-refusal .ensures)
+
+pub range-refusal-spec : {M : Type 1} → statement M
+range-refusal-spec =
+    tie.close
+    (tie.spec
+    sector-size-requires
+    cast-size
+    rem-if1
+    returns
+    rem-if2
+    returns-2
+    cast-within
+    within-requires
+    returns-3
+    all-fit-requires
+    returns-4
+    protection-refusal-requires
+    returns-5)

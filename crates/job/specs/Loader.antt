@@ -1,0 +1,161 @@
+-- The loader, step by step: what follows from the value last read.
+use Prim.Native.Nat.{ℕ, _+_, _-_}
+use mathlib.Core.Bool.{Bool, true, false}
+use mathlib.Core.List.{List}
+use lib.Dec.{eqb, ltb, leb}
+use lib.ListN.{length, getD, set, take, drop}
+use Rattle.parts.specs.Pick.{pick}
+use Rattle.parts.specs.Width.{blankOf}
+use Rattle.chip.specs.declared.cycle.Action.{Action}
+use Rattle.chip.specs.declared.cycle.Action.the-variants.{Read, Write, Idle, Cut}
+use Rattle.chip.specs.declared.cycle.Cycle.{Cycle}
+use Rattle.driver.specs.declared.machine.Phase.{Phase}
+use Rattle.driver.specs.declared.machine.Phase.the-variants.{Writing, Polling, Confirming, Done, GaveUp, Differs}
+use Rattle.driver.specs.declared.machine.Driver.{Driver}
+use Rattle.driver.specs.declared.machine.Next.the-variants.{Nothing, Send}
+use Rattle.driver.specs.declared.machine.Step.{Step}
+use Rattle.driver.specs.Machine.{driver, startOf, stepOf}
+use Rattle.job.specs.declared.loader.Job.{Job}
+use Rattle.job.specs.declared.loader.Stage.{Stage}
+use Rattle.job.specs.declared.loader.Stage.the-variants.{Scanning, Erasing, Filling, Looking, Burning}
+use Rattle.job.specs.declared.loader.Loader.{Loader}
+use Rattle.job.specs.declared.loader.Purpose.{Purpose}
+use Rattle.job.specs.declared.loader.Purpose.the-variants.{Scan, Lead, Begin, Poll, Confirm}
+use Rattle.job.specs.declared.loader.Turn.{Turn}
+use Rattle.job.specs.declared.loader.Turn.the-variants.{Play, Stop}
+use Rattle.job.specs.Search.{rises, leadingOf}
+
+-- no operation is driven
+abbrev pub nobody : Driver
+nobody = driver 0 0 0 0 0 Writing 0
+
+abbrev pub loader : Stage → ℕ → ℕ → Driver → Loader
+loader s base at d = record { stage = s; base = base; at = at; driver = d }
+
+abbrev pub cycle : ℕ → Bool → Action → Cycle
+cycle e wp a = record { elapsed = e; wp = wp; action = a }
+
+-- the address of a cell of a sector
+abbrev pub placeOf : Job → ℕ → ℕ → ℕ
+placeOf j base i = j .first + (base + i)
+
+-- ---- reads
+-- a cell is read at 0 µs
+abbrev pub readsCell : Job → Stage → ℕ → ℕ → Turn
+readsCell j s base i = Play (loader s base i nobody) Scan (cycle 0 (j .wp) (Read (placeOf j base i)))
+
+-- the sector at base is read from its first cell on, if there is one
+unfoldable pub firstOf : Job → ℕ → Turn
+firstOf j base = pick (ltb base (j .count)) (readsCell j Scanning base 0) (Stop 0)
+
+-- the cells of an unerased sector are read again from i on; then the next sector
+unfoldable pub lookOf : Job → ℕ → ℕ → Turn
+lookOf j base i = pick (ltb i (j .size)) (readsCell j Looking base i) (firstOf j (base + j .size))
+
+-- ---- operations
+abbrev pub polling : Phase → Bool
+polling Writing = false
+polling Polling = true
+polling Confirming = false
+polling Done = false
+polling GaveUp = false
+polling Differs = false
+
+-- why a driver names a cycle, by the phase that it is in then
+abbrev pub purposeOf : Driver → Action → Purpose
+purposeOf d (Read a) = pick (polling (d .phase)) Poll Confirm
+purposeOf d (Write a x) = pick (polling (d .phase)) (Begin (d .command)) Lead
+purposeOf d Idle = Lead
+purposeOf d (Cut s) = Lead
+
+-- the cycle that a driver names
+abbrev pub goesOn : Job → Stage → ℕ → ℕ → Driver → ℕ → Action → Turn
+goesOn j s base i d e a = Play (loader s base i d) (purposeOf d a) (cycle e (j .wp) a)
+
+-- a driver's first step
+abbrev pub firstStep : Job → Stage → ℕ → ℕ → Step → Turn
+firstStep j s base i t = elim (t .next) [ Nothing ↦ Stop (t .answer) | Send e a ↦ goesOn j s base i (t .driver) e a ]
+
+-- an operation at a cell of a sector begins
+unfoldable pub beginOf : Job → Stage → ℕ → ℕ → ℕ → ℕ → Turn
+beginOf j s base i command x =
+    pick (eqb (startOf (j .part) command (placeOf j base i) x (j .p) .answer) 0)
+    (firstStep j s base i (stepOf (startOf (j .part) command (placeOf j base i) x (j .p) .driver) 0))
+    (Stop (startOf (j .part) command (placeOf j base i) x (j .p) .answer))
+
+-- ---- an erased sector: the next non-blank value from i on is programmed; then the next sector
+abbrev pub nextMark : Job → List ℕ → ℕ → ℕ → ℕ
+nextMark j image base i = i + leadingOf (blankOf (j .row .width)) (take (j .size - i) (drop (base + i) image))
+
+unfoldable pub fillOf : Job → List ℕ → ℕ → ℕ → Turn
+fillOf j image base i =
+    pick (ltb (nextMark j image base i) (j .size))
+    (beginOf j Filling base (nextMark j image base i) 0 (getD image (base + nextMark j image base i) 0))
+    (firstOf j (base + j .size))
+
+-- ---- an unerased sector: a cell that differs is programmed at once
+unfoldable pub burnOf : Job → List ℕ → ℕ → ℕ → ℕ → Turn
+burnOf j image base i reply =
+    pick (eqb reply (getD image (base + i) 0)) (lookOf j base (i + 1))
+    (beginOf j Burning base i 0 (getD image (base + i) 0))
+
+-- ---- the decision, from the values seen
+unfoldable pub decideOf : Job → List ℕ → List ℕ → ℕ → Turn
+decideOf j image seen base =
+    pick (rises (j .row .width) (take (j .size) seen) (take (j .size) (drop base image)))
+    (beginOf j Erasing base 0 1 0)
+    (lookOf j base 0)
+
+-- what follows an operation
+abbrev pub afterwards : Job → List ℕ → Stage → ℕ → ℕ → Turn
+afterwards j image Scanning base i = lookOf j base (i + 1)
+afterwards j image Erasing base i = fillOf j image base 0
+afterwards j image Filling base i = fillOf j image base (i + 1)
+afterwards j image Looking base i = lookOf j base (i + 1)
+afterwards j image Burning base i = lookOf j base (i + 1)
+
+-- a driver's step: its cycle, or what follows; an ending that is not 0 ends the job
+unfoldable pub drivenOf : Job → List ℕ → Stage → ℕ → ℕ → Step → Turn
+drivenOf j image s base i t =
+    elim (t .next) [
+      | Nothing ↦ pick (eqb (t .answer) 0) (afterwards j image s base i) (Stop (t .answer))
+      | Send e a ↦ goesOn j s base i (t .driver) e a
+    ]
+
+-- ---- a step
+-- a scan's reply is kept
+abbrev pub seenOf : Stage → List ℕ → ℕ → ℕ → List ℕ
+seenOf Scanning seen i reply = set seen i reply
+seenOf Erasing seen i reply = seen
+seenOf Filling seen i reply = seen
+seenOf Looking seen i reply = seen
+seenOf Burning seen i reply = seen
+
+-- the scan goes on to the sector's end, then decides
+unfoldable pub scannedOf : Job → List ℕ → List ℕ → ℕ → ℕ → Turn
+scannedOf j image seen base i = pick (ltb (i + 1) (j .size)) (readsCell j Scanning base (i + 1)) (decideOf j image seen base)
+
+abbrev pub stageOf : Job → List ℕ → List ℕ → Stage → ℕ → ℕ → Driver → ℕ → Turn
+stageOf j image seen Scanning base i d reply = scannedOf j image seen base i
+stageOf j image seen Erasing base i d reply = drivenOf j image Erasing base i (stepOf d reply)
+stageOf j image seen Filling base i d reply = drivenOf j image Filling base i (stepOf d reply)
+stageOf j image seen Looking base i d reply = burnOf j image base i reply
+stageOf j image seen Burning base i d reply = drivenOf j image Burning base i (stepOf d reply)
+
+-- a loader within its job: its sector in the image, its cell in the sector
+unfoldable pub within : Job → Loader → Bool
+within j l = pick (leb (l .base + j .size) (j .count)) (ltb (l .at) (j .size)) false
+
+-- the values seen and the turn after a reply; 5 for a loader that is not within its job
+pub record Turned : Type 0 where
+  pub seen : List ℕ
+  pub turn : Turn
+
+abbrev pub turned : List ℕ → Turn → Turned
+turned seen t = record { seen = seen; turn = t }
+
+unfoldable pub turnOf : Job → List ℕ → List ℕ → Loader → ℕ → Turned
+turnOf j image seen l reply =
+    pick (within j l)
+    (turned (seenOf (l .stage) seen (l .at) reply) (stageOf j image (seenOf (l .stage) seen (l .at) reply) (l .stage) (l .base) (l .at) (l .driver) reply))
+    (turned seen (Stop 5))

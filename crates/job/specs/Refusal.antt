@@ -1,0 +1,47 @@
+-- The refusals of a job, in document 01's order.
+use Prim.Native.Nat.{ℕ, _+_, _%_}
+use mathlib.Core.Bool.{Bool, true, false}
+use mathlib.Core.List.{List, [], _∷_}
+use lib.Dec.{eqb, ltb, leb}
+use lib.ListN.{length}
+use Rattle.parts.specs.Pick.{pick}
+use Rattle.parts.specs.Width.{fitsIn, sectorSize}
+use Rattle.parts.specs.Table.{rowOf, partRefusal}
+use Rattle.parts.specs.Span.{protectedOf}
+use Rattle.parts.specs.declared.span.Span.{Span}
+use Rattle.parts.specs.declared.table.Row.{Row}
+
+-- every image value fits the width
+unfoldable pub fitAll : ℕ → List ℕ → Bool
+fitAll w [] = true
+fitAll w (x ∷ xs) = pick (fitsIn w x) (fitAll w xs) false
+
+-- count cells from first on hold one of a range
+unfoldable pub meets : Span → ℕ → ℕ → Bool
+meets s first count =
+    pick (ltb 0 count)
+    (pick (ltb first (s .first + s .count)) (ltb (s .first) (first + count)) false)
+    false
+
+-- 9: WP# low and the range holds a protected cell
+unfoldable pub protectionRefusal : Row → ℕ → ℕ → Bool → ℕ
+protectionRefusal r first count wp = pick wp 0 (pick (meets (protectedOf r) first count) 9 0)
+
+-- 6: first or count not a multiple of the sector; 7: first + count past the cells; 8: an image value that does not fit; 9
+unfoldable pub rangeRefusal : Row → ℕ → List ℕ → Bool → ℕ
+rangeRefusal r first image wp =
+    pick (ltb 0 (first % sectorSize (r .width))) 6
+    (pick (ltb 0 (length image % sectorSize (r .width))) 6
+    (pick (leb (first + length image) (r .cells))
+    (pick (fitAll (r .width) image) (protectionRefusal r first (length image) wp) 8)
+    7))
+
+-- 1; 2: lent cells are not the part's number; 10: p is 0 or above 1,000; then 6, 7, 8, 9
+unfoldable pub jobRefusal : ℕ → ℕ → ℕ → List ℕ → Bool → ℕ → ℕ
+jobRefusal part lent first image wp p =
+    pick (ltb 0 (partRefusal part)) (partRefusal part)
+    (pick (eqb lent (rowOf part .cells))
+    (pick (eqb p 0) 10
+    (pick (ltb 1000 p) 10
+    (rangeRefusal (rowOf part) first image wp)))
+    2)

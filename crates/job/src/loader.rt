@@ -1,0 +1,388 @@
+// The loader: a machine by value over replies. It never sees the cells: what it decides, it decides from what was read.
+use crate::search::leading;
+use crate::search::must_rise;
+use chip::Action;
+use chip::Cycle;
+use driver::Driver;
+use driver::Next;
+use driver::Phase;
+use driver::Step;
+use parts::Row;
+ghost use mathlib.Core.Path.{_≡_};
+ghost use Prim.Native.Nat.{_+_, _≤_, _<_};
+ghost use lib.ListN.{length};
+ghost use lib.Dec.{eqb};
+ghost use Rattle.parts.specs.Pick.{pick};
+ghost use Rattle.job.specs.Loader.{afterwards, beginOf, burnOf, decideOf, drivenOf, fillOf, firstOf, firstStep, goesOn, lookOf, nobody, polling, purposeOf, readsCell, scannedOf, seenOf, stageOf, turnOf, within};
+ghost use Rattle.job.specs.Kept.{Kept};
+
+// A job that was not refused: its part and row, the first address, the number of image values, WP# and p.
+pub struct Job {
+    pub part: u32,
+    pub row: Row,
+    pub size: u32,
+    pub first: u32,
+    pub count: u32,
+    pub wp: bool,
+    pub p: u32,
+}
+
+// What is done in a sector: it is read; erased, then filled; or looked at again, and a cell burnt where it differs.
+pub enum Stage {
+    Scanning,
+    Erasing,
+    Filling,
+    Looking,
+    Burning,
+}
+
+// The stage, the image's index of the sector's first cell, the cell in the sector, and the driver of the operation.
+pub struct Loader {
+    pub stage: Stage,
+    pub base: u32,
+    pub at: u32,
+    pub driver: Driver,
+}
+
+// Why a cycle is sent: a scan's read, a write in front of a command's last one, that one, a poll, the confirming read.
+pub enum Purpose {
+    Scan,
+    Lead,
+    Begin(u32),
+    Poll,
+    Confirm,
+}
+
+// The next cycle with its purpose, or the end: 0, or what a driver ended with.
+pub enum Turn {
+    Play(Loader, Purpose, Cycle),
+    Stop(u32),
+}
+
+// No operation is driven.
+fn no_driver() -> Driver
+    ensures { λ r. ⌜ r ≡ nobody ⌝ }
+{
+    let phase = Phase::Writing;
+    Driver {
+        part: 0,
+        command: 0,
+        address: 0,
+        data: 0,
+        p: 0,
+        phase,
+        count: 0,
+    }
+}
+
+impl Job {
+    // A cell of a sector is read.
+    fn reads_cell(self, stage: Stage, base: u32, at: u32) -> Turn
+        requires { ⌜ self .first + (base + at) ≤ 4294967295 ⌝ }
+        ensures { λ r. ⌜ r ≡ readsCell self stage base at ⌝ }
+    {
+        let action = Action::Read(self.first + (base + at));
+        let cycle = Cycle {
+            elapsed: 0,
+            wp: self.wp,
+            action,
+        };
+        let driver = no_driver();
+        let loader = Loader {
+            stage,
+            base,
+            at,
+            driver,
+        };
+        Turn::Play(loader, Purpose::Scan, cycle)
+    }
+
+    // The sector at base is read, if there is one.
+    pub(crate) fn first_turn(self, base: u32) -> Turn
+        requires { ⌜ self .first + self .count ≤ 4194304 ⌝ }
+        ensures { λ r. ⌜ r ≡ firstOf self base ⌝ }
+    {
+        if base < self.count {
+            return self.reads_cell(Stage::Scanning, base, 0);
+        }
+        Turn::Stop(0)
+    }
+
+    // The cells of an unerased sector are read again from at on; then the next sector.
+    fn look(self, base: u32, at: u32) -> Turn
+        requires { ⌜ self .first + self .count ≤ 4194304 ⌝ }
+        requires { ⌜ base + self .size ≤ self .count ⌝ }
+        ensures { λ r. ⌜ r ≡ lookOf self base at ⌝ }
+    {
+        if at < self.size {
+            return self.reads_cell(Stage::Looking, base, at);
+        }
+        self.first_turn(base + self.size)
+    }
+
+    // An operation at a cell of a sector begins.
+    fn begin(self, stage: Stage, base: u32, at: u32, command: u32, data: u16) -> Turn
+        requires { ⌜ self .first + (base + at) ≤ 4294967295 ⌝ }
+        ensures { λ r. ⌜ r ≡ beginOf self stage base at command «data» ⌝ }
+    {
+        let started = driver::start(self.part, command, self.first + (base + at), data, self.p);
+        if started.answer == 0 {
+            let d = started.driver;
+            return self.first_step(stage, base, at, d.step(0));
+        }
+        Turn::Stop(started.answer)
+    }
+
+    // A driver's first step.
+    fn first_step(self, stage: Stage, base: u32, at: u32, step: Step) -> Turn
+        ensures { λ r. ⌜ r ≡ firstStep self stage base at step ⌝ }
+    {
+        let next = step.next;
+        let d = step.driver;
+        match next {
+            Next::Nothing => Turn::Stop(step.answer),
+            Next::Send(elapsed, action) => self.goes_on(stage, base, at, d, elapsed, action),
+        }
+    }
+
+    // The cycle that a driver names.
+    fn goes_on(
+        self,
+        stage: Stage,
+        base: u32,
+        at: u32,
+        driver: Driver,
+        elapsed: u32,
+        action: Action,
+    ) -> Turn
+        ensures { λ r. ⌜ r ≡ goesOn self stage base at driver elapsed action ⌝ }
+    {
+        let purpose = purpose_of(driver, action);
+        let cycle = Cycle {
+            elapsed,
+            wp: self.wp,
+            action,
+        };
+        let loader = Loader {
+            stage,
+            base,
+            at,
+            driver,
+        };
+        Turn::Play(loader, purpose, cycle)
+    }
+
+    // The next non-blank value of an erased sector from at on is programmed; then the next sector.
+    fn fill(self, image: &[u16], base: u32, at: u32) -> Turn
+        requires { ⌜ Kept self (length (now image)) ⌝ }
+        requires { ⌜ base + self .size ≤ self .count ⌝ }
+        requires { ⌜ at ≤ self .size ⌝ }
+        ensures { λ r. ⌜ r ≡ fillOf self (now (image .entry)) base at ⌝ }
+    {
+        let from = (base + at) as usize;
+        let end = (base + self.size) as usize;
+        let mark = at as usize + leading(&image[from..end], parts::blank(self.row.width));
+        if mark < self.size as usize {
+            let data = image[base as usize + mark];
+            return self.begin(Stage::Filling, base, mark as u32, 0, data);
+        }
+        self.first_turn(base + self.size)
+    }
+
+    // A cell of an unerased sector that differs is programmed at once.
+    fn burn(self, image: &[u16], base: u32, at: u32, reply: u16) -> Turn
+        requires { ⌜ Kept self (length (now image)) ⌝ }
+        requires { ⌜ base + self .size ≤ self .count ⌝ }
+        requires { ⌜ at < self .size ⌝ }
+        ensures { λ r. ⌜ r ≡ burnOf self (now (image .entry)) base at reply ⌝ }
+    {
+        let data = image[(base + at) as usize];
+        if reply == data {
+            return self.look(base, at + 1);
+        }
+        self.begin(Stage::Burning, base, at, 0, data)
+    }
+
+    // The sector's decision, from the values seen.
+    fn decide(self, image: &[u16], seen: &[u16], base: u32) -> Turn
+        requires { ⌜ Kept self (length (now image)) ⌝ }
+        requires { ⌜ base + self .size ≤ self .count ⌝ }
+        requires { ⌜ self .size ≤ length (now seen) ⌝ }
+        ensures { λ r. ⌜ r ≡ decideOf self (now (image .entry)) (now (seen .entry)) base ⌝ }
+    {
+        let size = self.size as usize;
+        let from = base as usize;
+        let end = from + size;
+        if must_rise(&seen[..size], &image[from..end], self.row.width) {
+            return self.begin(Stage::Erasing, base, 0, 1, 0);
+        }
+        self.look(base, 0)
+    }
+
+    // What follows an operation.
+    fn then(self, image: &[u16], stage: Stage, base: u32, at: u32) -> Turn
+        requires { ⌜ Kept self (length (now image)) ⌝ }
+        requires { ⌜ base + self .size ≤ self .count ⌝ }
+        requires { ⌜ at < self .size ⌝ }
+        ensures { λ r. ⌜ r ≡ afterwards self (now (image .entry)) stage base at ⌝ }
+    {
+        match stage {
+            Stage::Scanning => self.look(base, at + 1),
+            Stage::Erasing => self.fill(image, base, 0),
+            Stage::Filling => self.fill(image, base, at + 1),
+            Stage::Looking => self.look(base, at + 1),
+            Stage::Burning => self.look(base, at + 1),
+        }
+    }
+
+    // A driver's step: its cycle, or what follows.
+    fn driven(self, image: &[u16], stage: Stage, base: u32, at: u32, step: Step) -> Turn
+        requires { ⌜ Kept self (length (now image)) ⌝ }
+        requires { ⌜ base + self .size ≤ self .count ⌝ }
+        requires { ⌜ at < self .size ⌝ }
+        ensures { λ r. ⌜ r ≡ drivenOf self (now (image .entry)) stage base at step ⌝ }
+    {
+        let next = step.next;
+        let d = step.driver;
+        match next {
+            Next::Nothing => self.ended(image, stage, base, at, step.answer),
+            Next::Send(elapsed, action) => self.goes_on(stage, base, at, d, elapsed, action),
+        }
+    }
+
+    // An operation has ended.
+    fn ended(self, image: &[u16], stage: Stage, base: u32, at: u32, answer: u32) -> Turn
+        requires { ⌜ Kept self (length (now image)) ⌝ }
+        requires { ⌜ base + self .size ≤ self .count ⌝ }
+        requires { ⌜ at < self .size ⌝ }
+        ensures { λ r. ⌜ r ≡ pick (eqb answer 0) (afterwards self (now (image .entry)) stage base at) (Turn.Stop answer) ⌝ }
+    {
+        if answer == 0 {
+            return self.then(image, stage, base, at);
+        }
+        Turn::Stop(answer)
+    }
+
+    // The scan goes on to the sector's end, then decides.
+    fn scanned(self, image: &[u16], seen: &[u16], base: u32, at: u32) -> Turn
+        requires { ⌜ Kept self (length (now image)) ⌝ }
+        requires { ⌜ base + self .size ≤ self .count ⌝ }
+        requires { ⌜ at < self .size ⌝ }
+        requires { ⌜ self .size ≤ length (now seen) ⌝ }
+        ensures { λ r. ⌜ r ≡ scannedOf self (now (image .entry)) (now (seen .entry)) base at ⌝ }
+    {
+        if at + 1 < self.size {
+            return self.reads_cell(Stage::Scanning, base, at + 1);
+        }
+        self.decide(image, seen, base)
+    }
+}
+
+// Whether a driver polls.
+fn is_polling(phase: Phase) -> bool
+    ensures { λ r. ⌜ r ≡ polling phase ⌝ }
+{
+    match phase {
+        Phase::Writing => false,
+        Phase::Polling => true,
+        Phase::Confirming => false,
+        Phase::Done => false,
+        Phase::GaveUp => false,
+        Phase::Differs => false,
+    }
+}
+
+// Why a read is named.
+fn read_purpose(polls: bool) -> Purpose
+    ensures { λ r. ⌜ r ≡ pick polls Purpose.Poll Purpose.Confirm ⌝ }
+{
+    if polls {
+        return Purpose::Poll;
+    }
+    Purpose::Confirm
+}
+
+// Why a write is named.
+fn write_purpose(polls: bool, command: u32) -> Purpose
+    ensures { λ r. ⌜ r ≡ pick polls (Purpose.Begin command) Purpose.Lead ⌝ }
+{
+    if polls {
+        return Purpose::Begin(command);
+    }
+    Purpose::Lead
+}
+
+// Why a driver names a cycle.
+fn purpose_of(d: Driver, action: Action) -> Purpose
+    ensures { λ r. ⌜ r ≡ purposeOf d action ⌝ }
+{
+    let phase = d.phase;
+    let polls = is_polling(phase);
+    match action {
+        Action::Read(_) => read_purpose(polls),
+        Action::Write(_, _) => write_purpose(polls, d.command),
+        Action::Idle => Purpose::Lead,
+        Action::Cut(_) => Purpose::Lead,
+    }
+}
+
+impl Loader {
+    // Whether the loader is within its job.
+    fn is_within(self, job: Job) -> bool
+        ensures { λ r. ⌜ r ≡ within job self ⌝ }
+    {
+        if self.base as u64 + job.size as u64 <= job.count as u64 {
+            return self.at < job.size;
+        }
+        false
+    }
+
+    // What the stage does, the reply of a scan being among the values seen.
+    fn stage_turn(self, job: Job, image: &[u16], seen: &[u16], reply: u16) -> Turn
+        requires { ⌜ Kept job (length (now image)) ⌝ }
+        requires { ⌜ self .base + job .size ≤ job .count ⌝ }
+        requires { ⌜ self .at < job .size ⌝ }
+        requires { ⌜ job .size ≤ length (now seen) ⌝ }
+        ensures { λ r. ⌜ r ≡ stageOf job (now (image .entry)) (now (seen .entry)) (self .stage) (self .base) (self .at) (self .driver) reply ⌝ }
+    {
+        let stage = self.stage;
+        let d = self.driver;
+        match stage {
+            Stage::Scanning => job.scanned(image, seen, self.base, self.at),
+            Stage::Erasing => job.driven(image, Stage::Erasing, self.base, self.at, d.step(reply)),
+            Stage::Filling => job.driven(image, Stage::Filling, self.base, self.at, d.step(reply)),
+            Stage::Looking => job.burn(image, self.base, self.at, reply),
+            Stage::Burning => job.driven(image, Stage::Burning, self.base, self.at, d.step(reply)),
+        }
+    }
+
+    // A scan's reply is kept among the values seen.
+    fn keep(self, seen: &mut [u16; 4096], reply: u16)
+        requires { ⌜ self .at < 4096 ⌝ }
+        ensures { λ _. ⌜ now (seen .exit) ≡ seenOf (self .stage) (now (seen .entry)) (self .at) reply ⌝ }
+    {
+        let stage = self.stage;
+        let at = self.at as usize;
+        match stage {
+            Stage::Scanning => {
+                seen[at] = reply;
+            }
+            Stage::Erasing => {}
+            Stage::Filling => {}
+            Stage::Looking => {}
+            Stage::Burning => {}
+        }
+    }
+
+    // The turn after a reply.
+    pub(crate) fn turn(self, job: Job, image: &[u16], seen: &mut [u16; 4096], reply: u16) -> Turn
+        requires { ⌜ Kept job (length (now image)) ⌝ }
+        ensures { λ r. ⌜ (r ≡ turnOf job (now (image .entry)) (now (seen .entry)) self reply .turn) × (now (seen .exit) ≡ turnOf job (now (image .entry)) (now (seen .entry)) self reply .seen) ⌝ }
+    {
+        if !self.is_within(job) {
+            return Turn::Stop(5);
+        }
+        self.keep(seen, reply);
+        self.stage_turn(job, image, &seen[..], reply)
+    }
+}

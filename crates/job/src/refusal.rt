@@ -1,0 +1,111 @@
+// The refusals of a job, in document 01's order.
+use parts::Row;
+use parts::Span;
+ghost use mathlib.Core.Path.{_≡_};
+ghost use Prim.Native.Nat.{_+_, _≤_};
+ghost use lib.Dec.{leb};
+ghost use Rattle.job.specs.Refusal.{fitAll, jobRefusal, meets, protectionRefusal, rangeRefusal};
+
+// Whether every image value fits the width.
+fn all_fit(width: u32, image: &[u16]) -> bool
+    ensures { λ r. ⌜ r ≡ fitAll width (now (image .entry)) ⌝ }
+{
+    let mut i: usize = 0;
+    while i < image.len() {
+        if !parts::fits(width, image[i]) {
+            return false;
+        }
+        i += 1;
+    }
+    true
+}
+
+// Whether count cells from first on lie within so many cells.
+fn within(cells: usize, first: usize, count: usize) -> bool
+    ensures { λ r. ⌜ r ≡ leb (first + count) cells ⌝ }
+{
+    if cells < count {
+        return false;
+    }
+    first <= cells - count
+}
+
+// Whether count cells from first on hold one of a range.
+fn meets_range(s: Span, first: usize, count: usize) -> bool
+    requires { ⌜ first + count ≤ 4294967296 ⌝ }
+    ensures { λ r. ⌜ r ≡ meets s first count ⌝ }
+{
+    if count <= 0 {
+        return false;
+    }
+    if first < s.first as usize + s.count as usize {
+        return (s.first as usize) < first + count;
+    }
+    false
+}
+
+// The refusal of a range that WP# protects.
+fn protection_refusal(row: Row, first: usize, count: usize, wp: bool) -> u32
+    requires { ⌜ first + count ≤ 4294967296 ⌝ }
+    ensures { λ r. ⌜ r ≡ protectionRefusal row first count wp ⌝ }
+{
+    if wp {
+        return 0;
+    }
+    let protected = row.protected_range();
+    if meets_range(protected, first, count) {
+        return 9;
+    }
+    0
+}
+
+// The refusal of a range and an image: 6, 7, 8, 9.
+fn range_refusal(row: Row, first: u32, image: &[u16], wp: bool) -> u32
+    ensures { λ r. ⌜ r ≡ rangeRefusal row first (now (image .entry)) wp ⌝ }
+{
+    let size = row.sector_size() as usize;
+    let from = first as usize;
+    let count = image.len();
+    if 0 < from % size {
+        return 6;
+    }
+    if 0 < count % size {
+        return 6;
+    }
+    if !within(row.cells as usize, from, count) {
+        return 7;
+    }
+    if !all_fit(row.width, image) {
+        return 8;
+    }
+    protection_refusal(row, from, count, wp)
+}
+
+// The refusal of a job: 1, 2, 10, 6, 7, 8, 9.
+pub(crate) fn job_refusal(
+    part: u32,
+    lent: usize,
+    first: u32,
+    image: &[u16],
+    wp: bool,
+    p: u32,
+) -> u32
+    ensures { λ r. ⌜ r ≡ jobRefusal part lent first (now (image .entry)) wp p ⌝ }
+{
+    let found = parts::part_row(part);
+    let answer = found.answer;
+    if 0 < answer {
+        return answer;
+    }
+    let row = found.row;
+    if lent == row.cells as usize {
+        if p == 0 {
+            return 10;
+        }
+        if 1000 < p {
+            return 10;
+        }
+        return range_refusal(row, first, image, wp);
+    }
+    2
+}

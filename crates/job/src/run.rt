@@ -1,0 +1,179 @@
+// The run: the loader's cycles are sent one by one through the bus cycle, and counted.
+use crate::loader::Job;
+use crate::loader::Purpose;
+use crate::loader::Turn;
+use chip::Action;
+use chip::Cycle;
+use chip::Device;
+ghost use mathlib.Core.Path.{_≡_};
+ghost use Prim.Native.Nat.{_<_, _≤_};
+ghost use lib.ListN.{length};
+ghost use Rattle.job.specs.Kept.{Counts, Kept};
+ghost use Rattle.job.specs.Run.{begunOf, countedOf, lastOf, noLast, noneSent, runFrom, sendOf, world};
+
+// What the cycles sent so far have counted, and their µs.
+pub struct Tally {
+    pub erases: u64,
+    pub programs: u64,
+    pub polls: u64,
+    pub scans: u64,
+    pub confirms: u64,
+    pub time: u64,
+}
+
+// The last cycle: kind 0 none, 1 read, 2 write.
+pub struct Last {
+    pub kind: u32,
+    pub elapsed: u32,
+    pub wp: bool,
+    pub address: u32,
+    pub data: u16,
+}
+
+// What is held beside the cells: the device, the counts, the last cycle and its reply, and how many were sent.
+pub struct Held {
+    pub device: Device,
+    pub tally: Tally,
+    pub last: Last,
+    pub reply: u16,
+    pub sent: u64,
+}
+
+// No cycle.
+fn no_last() -> Last
+    ensures { λ r. ⌜ r ≡ noLast ⌝ }
+{
+    Last {
+        kind: 0,
+        elapsed: 0,
+        wp: false,
+        address: 0,
+        data: 0,
+    }
+}
+
+// A cycle as numbers.
+fn last_of(elapsed: u32, wp: bool, action: Action) -> Last
+    ensures { λ r. ⌜ r ≡ lastOf elapsed wp action ⌝ }
+{
+    match action {
+        Action::Read(address) => Last {
+            kind: 1,
+            elapsed,
+            wp,
+            address,
+            data: 0,
+        },
+        Action::Write(address, data) => Last {
+            kind: 2,
+            elapsed,
+            wp,
+            address,
+            data,
+        },
+        Action::Idle => no_last(),
+        Action::Cut(_) => no_last(),
+    }
+}
+
+impl Tally {
+    // An operation more: 0 program, 1 sector erase.
+    fn begun(self, command: u32, elapsed: u32) -> Tally
+        requires { ⌜ Counts self 2147483648 ⌝ }
+        ensures { λ r. ⌜ r ≡ begunOf self command elapsed ⌝ }
+    {
+        let mut t = self;
+        t.time += elapsed as u64;
+        if command == 0 {
+            t.programs += 1;
+            return t;
+        }
+        t.erases += 1;
+        t
+    }
+
+    // A cycle more.
+    fn counted(self, purpose: Purpose, elapsed: u32) -> Tally
+        requires { ⌜ Counts self 2147483648 ⌝ }
+        ensures { λ r. ⌜ r ≡ countedOf self purpose elapsed ⌝ }
+    {
+        let mut t = self;
+        t.time += elapsed as u64;
+        match purpose {
+            Purpose::Scan => {
+                t.scans += 1;
+                t
+            }
+            Purpose::Lead => t,
+            Purpose::Begin(command) => self.begun(command, elapsed),
+            Purpose::Poll => {
+                t.polls += 1;
+                t
+            }
+            Purpose::Confirm => {
+                t.confirms += 1;
+                t
+            }
+        }
+    }
+}
+
+// Nothing sent: a fresh device.
+fn none_sent() -> Held
+    ensures { λ r. ⌜ r ≡ noneSent ⌝ }
+{
+    let tally = Tally {
+        erases: 0,
+        programs: 0,
+        polls: 0,
+        scans: 0,
+        confirms: 0,
+        time: 0,
+    };
+    Held {
+        device: chip::fresh(),
+        tally,
+        last: no_last(),
+        reply: 0,
+        sent: 0,
+    }
+}
+
+// Sends one cycle.
+fn send(part: u32, cells: &mut [u16], h: Held, purpose: Purpose, cycle: Cycle) -> Held
+    requires { ⌜ Counts (h .tally) 2147483648 ⌝ }
+    requires { ⌜ h .sent < 2147483648 ⌝ }
+    ensures { λ r. ⌜ (r ≡ sendOf part (world (now (cells .entry)) h) purpose cycle .held) × (now (cells .exit) ≡ sendOf part (world (now (cells .entry)) h) purpose cycle .cells) ⌝ }
+{
+    let device = h.device;
+    let tally = h.tally;
+    let action = cycle.action;
+    let o = chip::bus_cycle(part, cells, device, cycle);
+    let next = o.device;
+    Held {
+        device: next,
+        tally: tally.counted(purpose, cycle.elapsed),
+        last: last_of(cycle.elapsed, cycle.wp, action),
+        reply: o.value,
+        sent: h.sent + 1,
+    }
+}
+
+// Sends the loader's cycles, at most k.
+pub(crate) fn run(cells: &mut [u16], job: Job, image: &[u16], k: u64) -> Held
+    requires { ⌜ Kept job (length (now image)) ⌝ }
+    requires { ⌜ k ≤ 2147483648 ⌝ }
+    ensures { λ r. ⌜ (r ≡ runFrom job (now (image .entry)) (now (cells .entry)) k .held) × (now (cells .exit) ≡ runFrom job (now (image .entry)) (now (cells .entry)) k .cells) ⌝ }
+{
+    let mut seen = [0u16; 4096];
+    let mut held = none_sent();
+    let mut turn = job.first_turn(0);
+    while held.sent < k {
+        let Turn::Play(loader, purpose, cycle) = turn else {
+            return held;
+        };
+        held = send(job.part, &mut *cells, held, purpose, cycle);
+        turn = loader.turn(job, image, &mut seen, held.reply);
+    }
+    held
+}
