@@ -11,4 +11,13 @@ uint32_t station_figure(uint32_t part, uint32_t column);
 /* The answer to the same question: 0 (the figure stands), 1 (no such part) or 15 (no such column). */
 uint32_t station_figure_answer(uint32_t part, uint32_t column);
 
+/* The address of the k-th write, from 0, of a command (0 program, 1 sector, 2 block, 3 chip erase) at an address with data; 0 where it is refused. */
+uint32_t station_write_address(uint32_t part, uint32_t command, uint32_t address, uint16_t data, uint32_t k);
+
+/* The data of the same write; 0 where it is refused. An erase ignores the data given, a chip erase the address too. */
+uint16_t station_write_data(uint32_t part, uint32_t command, uint32_t address, uint16_t data, uint32_t k);
+
+/* The answer to the same question: 0 (the write stands), 1 (no such part), 14 (no such command), 3 (no such address), 4 (data too large) or 15 (k past the writes). */
+uint32_t station_write_answer(uint32_t part, uint32_t command, uint32_t address, uint16_t data, uint32_t k);
+
 #endif

@@ -1,8 +1,17 @@
-/* Prints the part table, a line a part, then the answers to two questions that are refused. */
+/* Prints the part table, a line a part, then the writes of some commands, a line a command; and the answers to questions that are refused. */
 #include <inttypes.h>
 #include <stdio.h>
 
 #include "station.h"
+
+static void print_writes(uint32_t part, uint32_t command, uint32_t address, uint16_t data)
+{
+    printf("part %" PRIu32 " command %" PRIu32 ":", part, command);
+    for (uint32_t k = 0; station_write_answer(part, command, address, data, k) == 0; k++)
+        printf(" %" PRIX32 "H@%" PRIX32 "H", (uint32_t)station_write_data(part, command, address, data, k),
+               station_write_address(part, command, address, data, k));
+    printf("\n");
+}
 
 int main(void)
 {
@@ -14,5 +23,17 @@ int main(void)
     }
     printf("part 11: %" PRIu32 "\n", station_figure_answer(11, 7));
     printf("column 7: %" PRIu32 "\n", station_figure_answer(10, 7));
+
+    print_writes(5, 0, 0x1234, 0xabcd);
+    print_writes(3, 1, 0x7ffff, 0);
+    print_writes(9, 1, 2053, 0);
+    print_writes(7, 2, 2053, 0);
+    print_writes(9, 2, 2053, 0);
+    print_writes(0, 3, 0xffffffff, 0xffff);
+    printf("part 11: %" PRIu32 "\n", station_write_answer(11, 4, 0xffffffff, 0, 6));
+    printf("block of part 3: %" PRIu32 "\n", station_write_answer(3, 2, 0xffffffff, 0, 6));
+    printf("past the cells: %" PRIu32 "\n", station_write_answer(3, 0, 524288, 0x100, 4));
+    printf("data 100H on part 3: %" PRIu32 "\n", station_write_answer(3, 0, 0, 0x100, 4));
+    printf("fifth write of a program: %" PRIu32 "\n", station_write_answer(3, 0, 0, 0xff, 4));
     return 0;
 }

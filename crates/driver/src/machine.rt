@@ -230,13 +230,20 @@ impl Driver {
         ensures { λ r. ⌜ r ≡ writingOf row self ⌝ }
     {
         let w = nth_write(row, self.command, self.address, self.data, self.count);
-        let action = Action::Write(w.address, w.data);
+        let write = Action::Write(w.address, w.data);
         Step {
             answer: 0,
             driver: self.after_write(),
-            next: Next::Send(0, action),
+            next: Next::Send(0, write),
             polls: 0,
         }
+    }
+
+    // A read of the operation's address.
+    fn look(self) -> Action
+        ensures { λ r. ⌜ r ≡ Action.Read (addressOf (self .command) (self .address)) ⌝ }
+    {
+        Action::Read(address_of(self.command, self.address))
     }
 
     // Names one more poll.
@@ -245,7 +252,7 @@ impl Driver {
         ensures { λ r. ⌜ r ≡ polls self ⌝ }
     {
         let n = self.count + 1;
-        let action = Action::Read(address_of(self.command, self.address));
+        let action = self.look();
         Step {
             answer: 0,
             driver: self.moved_to(Phase::Polling, n),
@@ -258,13 +265,13 @@ impl Driver {
     fn confirm(self) -> Step
         ensures { λ r. ⌜ r ≡ confirms self ⌝ }
     {
-        let n = self.count;
-        let action = Action::Read(address_of(self.command, self.address));
+        let polls = self.count;
+        let action = self.look();
         Step {
             answer: 0,
-            driver: self.moved_to(Phase::Confirming, n),
+            driver: self.moved_to(Phase::Confirming, polls),
             next: Next::Send(0, action),
-            polls: n,
+            polls,
         }
     }
 

@@ -5,9 +5,24 @@ use Rattle.station.proofs.station_figure.Kinds as figure-kinds
 use Rattle.station.proofs.station_figure.Reads as figure-reads
 use Rattle.station.proofs.station_figure_answer.Kinds as answer-kinds
 use Rattle.station.proofs.station_figure_answer.Reads as answer-reads
+use Rattle.station.proofs.station_write_address.Kinds as write-address-kinds
+use Rattle.station.proofs.station_write_address.Reads as write-address-reads
+use Rattle.station.proofs.station_write_data.Kinds as write-data-kinds
+use Rattle.station.proofs.station_write_data.Reads as write-data-reads
+use Rattle.station.proofs.station_write_answer.Kinds as write-answer-kinds
+use Rattle.station.proofs.station_write_answer.Reads as write-answer-reads
 
 pub figure-unique : Unique figure-kinds.ps figure-kinds.r figure-reads.Post
 figure-unique κs a x y s t p q = p ∙ sym q
 
 pub answer-unique : Unique answer-kinds.ps answer-kinds.r answer-reads.Post
 answer-unique κs a x y s t p q = p ∙ sym q
+
+pub write-address-unique : Unique write-address-kinds.ps write-address-kinds.r write-address-reads.Post
+write-address-unique κs a x y s t p q = p ∙ sym q
+
+pub write-data-unique : Unique write-data-kinds.ps write-data-kinds.r write-data-reads.Post
+write-data-unique κs a x y s t p q = p ∙ sym q
+
+pub write-answer-unique : Unique write-answer-kinds.ps write-answer-kinds.r write-answer-reads.Post
+write-answer-unique κs a x y s t p q = p ∙ sym q

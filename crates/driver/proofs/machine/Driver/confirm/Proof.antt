@@ -3,14 +3,14 @@ use borrow.Author.Needs.{needs}
 use Rattle.driver.proofs.machine.Driver.confirm.Statement.{statement}
 use Rattle.driver.proofs.machine.Driver.confirm.Tie as tie
 
-address-of-requires : tie.Need-address-of-requires
-address-of-requires c κs = search needs
+look-requires : tie.Need-look-requires
+look-requires c κs = search needs
 
 moved-to-requires : tie.Need-moved-to-requires
 moved-to-requires c κs = search needs
 
 returns : tie.Need-returns
-returns c = simp (c .before .address-of .ensures, c .moved-to .ensures)
+returns c = simp (c .before .look .ensures, c .moved-to .ensures)
 
 pub confirm-spec : {M : Type 1} → statement M
-confirm-spec = tie.close (tie.spec address-of-requires moved-to-requires returns)
+confirm-spec = tie.close (tie.spec look-requires moved-to-requires returns)
