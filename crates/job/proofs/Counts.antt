@@ -1,9 +1,10 @@
 -- The bill's formulas: what a list of cycles counts, by its parts, and what the job's one list counts. No chip in them.
-use Prim.Native.Nat.{ℕ, zero, suc, zero-le, _+_, _-_, _*_, _/_, _≤_, _<_}
+use Prim.Native.Nat.{ℕ, zero, suc, zero-le, _+_, _*_, _/_, _≤_}
 use mathlib.Core.Path.{_≡_, refl, sym, ap, _∙_}
 use mathlib.Core.Bool.{Bool, true, false}
 use mathlib.Core.List.{List, [], _∷_, _++_, map}
-use native.Mathlib.Nat.{le-refl, zero-mul, mul-add, mul-le-mul, mul-le-mul-left, mul-le-mul-right, le-mul-of-pos-right, div-add-mod', div-mul-le-self, add-zero, zero-add, add-assoc, le-add-right as up}
+use native.Mathlib.Nat.{add-zero, zero-add, add-assoc, zero-mul, mul-add, le-refl, le-add-right as up}
+use native.Mathlib.Nat.{mul-le-mul, mul-le-mul-left, mul-le-mul-right, le-mul-of-pos-right, div-add-mod', div-mul-le-self}
 use native.Mathlib.Omega.{arith}
 use borrow.Author.Tests.{leb-true}
 use lib.Dec.{eqb, leb}
@@ -26,16 +27,19 @@ use Rattle.job.specs.Search.{rises}
 use Rattle.job.specs.Loader.{cycle}
 use Rattle.job.specs.Run.{Sent, World, sent, tally, countedOf, begunOf, sendOf, playOf}
 use Rattle.job.specs.Sent.{operated, scanRead, scans, fills, looks, sectorSent, sectorsSent, sentOf}
-use Rattle.job.specs.Formulas.{plus, noTally, tallyOf, N, Fair}
+use Rattle.job.specs.Formulas.{plus, noTally, tallyOf, N, Fair, marksOf, unlikeOf}
 use Rattle.job.proofs.Right.{Right}
 
 -- ---- sums of counts
+-- nothing and t
 none-plus : (t : Tally) → plus noTally t ≡ t
 none-plus t = simp zero-add
 
+-- t and nothing
 plus-none : (t : Tally) → plus t noTally ≡ t
 plus-none t = simp add-zero
 
+-- three, however grouped
 plus-plus : (t u v : Tally) → plus (plus t u) v ≡ plus t (plus u v)
 plus-plus t u v = simp add-assoc
 
@@ -68,6 +72,7 @@ play-sent part w [] = sym (add-zero (w .held .sent))
 play-sent part w (s ∷ L) = omega (arith, play-sent part (sendOf part w (s .purpose) (s .cycle)) L)
 
 -- ---- parts of a list
+-- two lists together
 pub tally-append : (L M : List Sent) → tallyOf (L ++ M) ≡ plus (tallyOf L) (tallyOf M)
 unfolding tallyOf
 tally-append [] M = sym (none-plus (tallyOf M))
@@ -102,14 +107,17 @@ polls-tally (suc n) e wp a =
     simp (polls-tally n e wp a, zero-add, s, i)
 
 module _ (j : Job) where
+  -- one program: N polls p apart, one confirming read
   pub program-tally : (a x : ℕ) → tallyOf (operated j 0 a x) ≡ tally 0 1 (N j 0) 0 1 (N j 0 * j .p)
   unfolding operated writesOf tallyOf
   program-tally a x = simp (tally-append, polls-tally, zero-add, add-zero)
 
+  -- one sector erase
   pub erase-tally : (a x : ℕ) → tallyOf (operated j 1 a x) ≡ tally 1 0 (N j 1) 0 1 (N j 1 * j .p)
   unfolding operated writesOf tallyOf
   erase-tally a x = simp (tally-append, polls-tally, zero-add, add-zero)
 
+  -- n reads
   pub scans-tally : (a n : ℕ) → tallyOf (scans j a n) ≡ tally 0 0 0 n 0 0
   unfolding scans tallyOf
   scans-tally a zero = refl
@@ -118,12 +126,13 @@ module _ (j : Job) where
       simp (scans-tally (a + 1) n, i)
 
   -- ---- the formulas
-  -- of a list
+  -- they hold of a list
   abbrev pub Fairly : List Sent → ℕ → ℕ → ℕ → Type 0
   Fairly L s e c = Fair j (tallyOf L) (length L) s e c
 
-  -- of two lists together
-  joined : (L M : List Sent) (s e c s′ e′ c′ : ℕ) {s″ e″ c″ : ℕ} → Fairly L s e c → Fairly M s′ e′ c′ → s + s′ ≡ s″ → e + e′ ≤ e″ → c + c′ ≤ c″ → Fairly (L ++ M) s″ e″ c″
+  -- of two lists together, if of each
+  joined : (L M : List Sent) (s e c s′ e′ c′ : ℕ) {s″ e″ c″ : ℕ} → Fairly L s e c → Fairly M s′ e′ c′
+      → s + s′ ≡ s″ → e + e′ ≤ e″ → c + c′ ≤ c″ → Fairly (L ++ M) s″ e″ c″
   joined L M s e c s′ e′ c′ {s″} {e″} {c″} f g hs he hc =
       rw (tally-append L M, length-append L M)
       record {
@@ -136,10 +145,12 @@ module _ (j : Job) where
         cycles = omega (arith, f .cycles, g .cycles);
       }
 
+  -- no cycle
   none-fair : (e c : ℕ) → Fairly [] 0 e c
   unfolding tallyOf
   none-fair e c = record { polls = omega arith; spent = omega arith; confirms = refl; scans = omega arith; erases = zero-le; programs = zero-le; cycles = refl }
 
+  -- a program
   program-fair : (a x : ℕ) → Fairly (operated j 0 a x) 0 0 1
   unfolding operated writesOf
   program-fair a x =
@@ -154,6 +165,7 @@ module _ (j : Job) where
         cycles = simp (length-append, length-replicate) (omega arith);
       }
 
+  -- a sector erase: its sector's cells are read once less
   erase-fair : (a x : ℕ) → Fairly (operated j 1 a x) (j .size) 1 0
   unfolding operated writesOf
   erase-fair a x =
@@ -168,6 +180,7 @@ module _ (j : Job) where
         cycles = simp (length-append, length-replicate) (omega arith);
       }
 
+  -- a read
   scan-fair : (a : ℕ) → Fairly (scanRead j a ∷ []) 1 0 0
   unfolding tallyOf
   scan-fair a = record { polls = omega arith; spent = omega arith; confirms = refl; scans = omega arith; erases = zero-le; programs = zero-le; cycles = refl }
@@ -176,11 +189,13 @@ module _ (j : Job) where
   burn-fair : (b : Bool) (a x : ℕ) → Fairly (pick b [] (operated j 0 a x)) 0 0 1
   burn-fair b a x = split (λ (L : List Sent). Fairly L 0 0 1) b [] (operated j 0 a x) (λ _. none-fair 0 1) (λ _. program-fair a x)
 
+  -- n reads
   scans-fair : (a n : ℕ) → Fairly (scans j a n) n 0 0
   unfolding scans
   scans-fair a zero = none-fair 0 0
   scans-fair a (suc n) = joined (scanRead j a ∷ []) (scans j (a + 1) n) 1 0 0 n 0 0 (scan-fair a) (scans-fair (a + 1) n) (omega arith) zero-le zero-le
 
+  -- after an erase
   fills-fair : (a : ℕ) (v : List ℕ) → Fairly (fills j a v) 0 0 (length v)
   unfolding fills
   fills-fair a [] = none-fair 0 0
@@ -188,6 +203,7 @@ module _ (j : Job) where
       joined (pick (eqb x (blankOf (j .row .width))) [] (operated j 0 a x)) (fills j (a + 1) v) 0 0 1 0 0 (length v)
       (burn-fair (eqb x (blankOf (j .row .width))) a x) (fills-fair (a + 1) v) refl zero-le (omega arith)
 
+  -- unerased
   looks-fair : (a : ℕ) (l v : List ℕ) → length l ≡ length v → Fairly (looks j a l v) (length l) 0 (length l)
   unfolding looks
   looks-fair a [] v h = none-fair 0 0
@@ -196,7 +212,8 @@ module _ (j : Job) where
       let b = eqb (valueOf (j .row .width) o) x in
       let m : length l ≡ length v = omega arith in
       joined (scanRead j a ∷ []) (pick b [] (operated j 0 a x) ++ looks j (a + 1) l v) 1 0 0 (length l) 0 (1 + length l) (scan-fair a)
-      (joined (pick b [] (operated j 0 a x)) (looks j (a + 1) l v) 0 0 1 (length l) 0 (length l) (burn-fair b a x) (looks-fair (a + 1) l v m) (omega arith) zero-le (le-refl _))
+      (joined (pick b [] (operated j 0 a x)) (looks j (a + 1) l v) 0 0 1 (length l) 0 (length l)
+      (burn-fair b a x) (looks-fair (a + 1) l v m) (omega arith) zero-le (le-refl _))
       (omega arith) zero-le (omega arith)
 
   -- more erases and programs allowed
@@ -208,13 +225,16 @@ module _ (j : Job) where
   unfolding sectorSent
   sector-fair a l v hl hv =
       let r = rises (j .row .width) (map (valueOf (j .row .width)) l) v in
-      joined (scans j a (j .size)) (pick r (operated j 1 a 0 ++ fills j a v) (looks j a l v)) (j .size) 0 0 (j .size) 1 (j .size) (scans-fair a (j .size))
+      joined (scans j a (j .size)) (pick r (operated j 1 a 0 ++ fills j a v) (looks j a l v)) (j .size) 0 0 (j .size) 1 (j .size)
+      (scans-fair a (j .size))
       (split (λ (L : List Sent). Fairly L (j .size) 1 (j .size)) r (operated j 1 a 0 ++ fills j a v) (looks j a l v)
       (λ _. joined (operated j 1 a 0) (fills j a v) (j .size) 1 0 0 0 (length v) (erase-fair a 0) (fills-fair a v) (omega arith) (le-refl _) (omega arith))
       (λ _. wider (looks j a l v) (length l) 0 (length l) (j .size) 1 (j .size) (looks-fair a l v (hl ∙ sym hv)) hl zero-le (omega arith)))
       refl (le-refl _) (omega arith)
 
-  sectors-fair : (n a : ℕ) (l v : List ℕ) → n * j .size ≤ length l → n * j .size ≤ length v → Fairly (sectorsSent j a n l v) (n * (j .size + j .size)) n (n * j .size)
+  -- n sectors
+  sectors-fair : (n a : ℕ) (l v : List ℕ) → n * j .size ≤ length l → n * j .size ≤ length v
+      → Fairly (sectorsSent j a n l v) (n * (j .size + j .size)) n (n * j .size)
   unfolding sectorsSent
   sectors-fair zero a l v hl hv = wider [] 0 0 0 _ 0 _ (none-fair 0 0) (omega arith) zero-le zero-le
   sectors-fair (suc n) a l v hl hv =
@@ -224,33 +244,58 @@ module _ (j : Job) where
       (sectors-fair n (a + S) (drop S l) (drop S v) (simp length-drop (omega arith)) (simp length-drop (omega arith)))
       (omega arith) (omega arith) (omega arith)
 
-  -- ---- the whole job
-  pub job-fair : (image cells : List ℕ) → Right j image → length cells ≡ rowOf (j .part) .cells → Fairly (sentOf j image cells) (j .count + j .count) (j .count / j .size) (j .count)
-  job-fair image cells R full =
-      let n = j .count / j .size in
-      let e : n * j .size ≡ j .count = omega (arith, div-add-mod' (j .count) (j .size), R .whole) in
-      let l : n * j .size ≤ length (drop (j .first) cells) = simp length-drop (omega (arith, R .range)) in
-      wider (sentOf j image cells) (n * (j .size + j .size)) n (n * j .size) (j .count + j .count) n (j .count)
-      (sectors-fair n (j .first) (drop (j .first) cells) image l (omega (arith, R .count))) (omega (arith, mul-add n (j .size) (j .size))) (le-refl _) (omega arith)
-
   -- ---- bounds
   module _ (t : Tally) (n s e c : ℕ) (f : Fair j t n s e c) where
+    -- the polls of e erases and c programs
     polls-most : t .polls ≤ e * N j 1 + c * N j 0
     polls-most = omega (arith, f .polls, mul-le-mul-right (N j 1) (f .erases), mul-le-mul-right (N j 0) (f .programs))
 
-    -- no more is spent than if every sector were erased and every cell programmed
+    -- the time of that many
     pub spent-most : t .time ≤ (e * N j 1 + c * N j 0) * j .p
     spent-most = rw (f .spent) (mul-le-mul-right (j .p) polls-most)
 
+    -- and the cycles
     pub cycles-most : n ≤ s + e * (N j 1 + 7) + c * (N j 0 + 5)
     cycles-most = omega (arith, f .scans, f .erases, f .programs, f .confirms, f .cycles, polls-most)
 
-  -- the cells of the erased sectors are of the range
-  pub erased-most : (image cells : List ℕ) → Right j image → length cells ≡ rowOf (j .part) .cells → tallyOf (sentOf j image cells) .erases * j .size ≤ j .count
-  erased-most image cells R full =
-      omega (arith, mul-le-mul-right (j .size) (job-fair image cells R full .erases), div-mul-le-self (j .count) (j .size))
+  -- ---- how many programs, and a sector's counts by its decision
+  -- one program, or none
+  burn-programs : (b : Bool) (a x : ℕ) → tallyOf (pick b [] (operated j 0 a x)) .programs ≡ pick b 0 1
+  unfolding tallyOf
+  burn-programs true a x = refl
+  burn-programs false a x = rw (program-tally a x)
 
--- ---- how many cycles a job has at most
+  -- after an erase: the values that are not blank
+  pub fills-programs : (a : ℕ) (v : List ℕ) → tallyOf (fills j a v) .programs ≡ marksOf (j .row .width) v
+  unfolding fills marksOf tallyOf
+  fills-programs a [] = refl
+  fills-programs a (x ∷ v) =
+      let b = eqb x (blankOf (j .row .width)) in
+      rw (tally-append (pick b [] (operated j 0 a x)) (fills j (a + 1) v), burn-programs b a x, fills-programs (a + 1) v)
+
+  -- unerased: the cells that differ
+  pub looks-programs : (a : ℕ) (l v : List ℕ) → tallyOf (looks j a l v) .programs ≡ unlikeOf (j .row .width) l v
+  unfolding looks unlikeOf tallyOf
+  looks-programs a [] v = refl
+  looks-programs a (o ∷ l) [] = refl
+  looks-programs a (o ∷ l) (x ∷ v) =
+      let b = eqb (valueOf (j .row .width) o) x in
+      rw (tally-append (pick b [] (operated j 0 a x)) (looks j (a + 1) l v), burn-programs b a x, looks-programs (a + 1) l v, zero-add)
+
+  -- a sector
+  pub sector-tally : (a : ℕ) (l v : List ℕ) → tallyOf (sectorSent j a l v)
+      ≡ pick (rises (j .row .width) (map (valueOf (j .row .width)) l) v)
+      (plus (tally 1 0 (N j 1) (j .size) 1 (N j 1 * j .p)) (tallyOf (fills j a v)))
+      (plus (tally 0 0 0 (j .size) 0 0) (tallyOf (looks j a l v)))
+  unfolding sectorSent
+  sector-tally a l v = by (rises (j .row .width) (map (valueOf (j .row .width)) l) v)
+    where
+      by : (r : Bool) → tallyOf (scans j a (j .size) ++ pick r (operated j 1 a 0 ++ fills j a v) (looks j a l v))
+          ≡ pick r (plus (tally 1 0 (N j 1) (j .size) 1 (N j 1 * j .p)) (tallyOf (fills j a v))) (plus (tally 0 0 0 (j .size) 0 0) (tallyOf (looks j a l v)))
+      by true = simp (tally-append, scans-tally, erase-tally, zero-add)
+      by false = simp (tally-append, scans-tally)
+
+-- ---- the table
 -- no known part takes more than 28 µs for a program and 36,000 for a sector erase
 quick : (n : ℕ) → partRefusal n ≡ 0 → (timeOf (rowOf n) 0 ≤ 28) × (timeOf (rowOf n) 1 ≤ 36000)
 unfolding rowOf timeOf
@@ -267,14 +312,35 @@ large : (w : ℕ) → 2048 ≤ sectorSize w
 unfolding sectorSize
 large w = split (λ (n : ℕ). 2048 ≤ n) (eqb w 8) 4096 2048 (λ _. omega arith) (λ _. omega arith)
 
-module _ (j : Job) (image : List ℕ) (R : Right j image) where
+-- ---- the whole job
+module _ (j : Job) (image : List ℕ) (R : Right j image) (cells : List ℕ) (full : length cells ≡ rowOf (j .part) .cells) where
+  -- the formulas: the range's cells are read twice less those of erased sectors; not more erases than sectors, nor programs than cells
+  pub job-fair : Fairly j (sentOf j image cells) (j .count + j .count) (j .count / j .size) (j .count)
+  job-fair =
+      let n = j .count / j .size in
+      let e : n * j .size ≡ j .count = omega (arith, div-add-mod' (j .count) (j .size), R .whole) in
+      let l : n * j .size ≤ length (drop (j .first) cells) = simp length-drop (omega (arith, R .range)) in
+      wider j (sentOf j image cells) (n * (j .size + j .size)) n (n * j .size) (j .count + j .count) n (j .count)
+      (sectors-fair j n (j .first) (drop (j .first) cells) image l (omega (arith, R .count)))
+      (omega (arith, mul-add n (j .size) (j .size))) (le-refl _) (omega arith)
+
+  -- the cells of erased sectors are cells of the range
+  pub erased-most : tallyOf (sentOf j image cells) .erases * j .size ≤ j .count
+  erased-most = omega (arith, mul-le-mul-right (j .size) (job-fair .erases), div-mul-le-self (j .count) (j .size))
+
+  -- no more is spent than if every sector were erased and every cell programmed
+  pub time-most : tallyOf (sentOf j image cells) .time ≤ (j .count / j .size * N j 1 + j .count * N j 0) * j .p
+  time-most = spent-most j _ _ _ _ _ job-fair
+
   -- a poll is at least 1 µs: no more polls than µs
   N-most : (command : ℕ) → N j command ≤ timeOf (rowOf (j .part)) command
   N-most command =
-      rw (R .row) (least (timeOf (rowOf (j .part)) command) (j .p) (R .some) (timeOf (rowOf (j .part)) command) (le-mul-of-pos-right (timeOf (rowOf (j .part)) command) (R .some)))
+      let T = timeOf (rowOf (j .part)) command in
+      rw (R .row) (least T (j .p) (R .some) T (le-mul-of-pos-right T (R .some)))
 
-  pub length-most : (cells : List ℕ) → length cells ≡ rowOf (j .part) .cells → length (sentOf j image cells) ≤ 2147483648
-  length-most cells full =
+  -- the job's cycles can be counted
+  pub length-most : length (sentOf j image cells) ≤ 2147483648
+  length-most =
       let n = j .count / j .size in
       let q = quick (j .part) (R .known) in
       let c : j .count ≤ 4194304 = omega (arith, R .range, cells-most (j .part) (R .known)) in
@@ -282,4 +348,4 @@ module _ (j : Job) (image : List ℕ) (R : Right j image) where
       let m : n ≤ 2048 = omega (arith, div-mul-le-self (j .count) (j .size), mul-le-mul-left n l) in
       let e : n * (N j 1 + 7) ≤ 2048 * 36007 = mul-le-mul {m₂ = 36007} m (omega (arith, N-most 1)) in
       let p : j .count * (N j 0 + 5) ≤ 4194304 * 33 = mul-le-mul {m₂ = 33} c (omega (arith, N-most 0)) in
-      omega (arith, cycles-most j _ _ _ _ _ (job-fair j image cells R full))
+      omega (arith, cycles-most j _ _ _ _ _ job-fair)

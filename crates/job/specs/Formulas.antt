@@ -2,6 +2,9 @@
 use Prim.Native.Nat.{ℕ, _+_, _*_, _≤_}
 use mathlib.Core.Path.{_≡_}
 use mathlib.Core.List.{List, [], _∷_}
+use lib.Dec.{eqb}
+use Rattle.parts.specs.Pick.{pick}
+use Rattle.parts.specs.Width.{valueOf, blankOf}
 use Rattle.parts.specs.Time.{pollsOf}
 use Rattle.job.specs.declared.loader.Job.{Job}
 use Rattle.job.specs.declared.run.Tally.{Tally}
@@ -37,3 +40,15 @@ pub record Fair (j : Job) (t : Tally) (n s e c : ℕ) : Type 0 where
   pub programs : t .programs ≤ c
   -- six writes an erase, four a program
   pub cycles : n ≡ t .scans + t .polls + t .confirms + t .erases * 6 + t .programs * 4
+
+-- ---- how many programs
+-- values that are not blank
+unfoldable pub marksOf : ℕ → List ℕ → ℕ
+marksOf w [] = 0
+marksOf w (x ∷ v) = pick (eqb x (blankOf w)) 0 1 + marksOf w v
+
+-- cells that differ from their values
+unfoldable pub unlikeOf : ℕ → List ℕ → List ℕ → ℕ
+unlikeOf w [] v = 0
+unlikeOf w (o ∷ l) [] = 0
+unlikeOf w (o ∷ l) (x ∷ v) = pick (eqb (valueOf w o) x) 0 1 + unlikeOf w l v
