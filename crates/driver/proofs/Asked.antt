@@ -11,13 +11,10 @@ use Rattle.parts.specs.Table.{rowOf, partRefusal}
 use Rattle.parts.specs.Time.{hasCommand}
 use Rattle.parts.specs.declared.table.Row.{Row}
 use Rattle.parts.proofs.Every.{split}
+use Rattle.chip.proofs.Accepted.{zero-left}
 use Rattle.driver.specs.Refusals.{dataRefusal, targetRefusal, commandRefusal, startRefusal}
 
 -- a choice that is 0 where one branch is not
-zero-left : (b : Bool) (x k : ℕ) → pick b x (suc k) ≡ 0 → (b ≡ true) × (x ≡ 0)
-zero-left true x k e = (refl, e)
-zero-left false x k e = absurd (omega arith)
-
 zero-right : (b : Bool) (k x : ℕ) → pick b (suc k) x ≡ 0 → (b ≡ false) × (x ≡ 0)
 zero-right true k x e = absurd (omega arith)
 zero-right false k x e = (refl, e)

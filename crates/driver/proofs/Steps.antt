@@ -20,7 +20,7 @@ use Rattle.driver.specs.declared.machine.Next.the-variants.{Nothing, Sen
 use Rattle.driver.specs.declared.machine.Step.{Step}
 use Rattle.driver.specs.Refusals.{startRefusal}
 use Rattle.driver.specs.Writes.{writeCount}
-use Rattle.driver.specs.Machine.{mostPolls, someUpTo, countFits, inRange, moved, step, ending, ended, valueWanted, afterWrite, nextWrite, writingOf, polls, confirms, matches, pollingOf, confirmingOf, phaseOf, stepOf}
+use Rattle.driver.specs.Machine.{mostPolls, someUpTo, countFits, inRange, moved, step, ending, final, ended, valueWanted, afterWrite, nextWrite, writingOf, polls, confirms, matches, pollingOf, confirmingOf, phaseOf, stepOf}
 use Rattle.driver.specs.Talk.{cycle, pollsIn}
 use Rattle.driver.proofs.Ready.{valid-start, valid-count}
 
@@ -40,15 +40,6 @@ unfolding inRange
 moved-in-range d f n e c = rw (both (eqb (startRefusal (d .part) (d .command) (d .address) (d .«data») (d .p)) 0) _ e .0) c
 
 -- ---- the ways that a step can go
--- the phases that end
-abbrev pub final : Phase → Bool
-final Writing = false
-final Polling = false
-final Confirming = false
-final Done = true
-final GaveUp = true
-final Differs = true
-
 -- the polls named before a phase's count
 abbrev pub pollsAt : Phase → ℕ → ℕ
 pollsAt Writing n = 0
@@ -263,12 +254,25 @@ answers d read e = go (stepOf d read) (way d read)
     go s (matched q l m) = refl
     go s (ends f i z c h) = refl
 
+-- where it names nothing, its phase is one that ends
+pub finishes : (d : Driver) (read : ℕ) → inRange d ≡ true → stepOf d read .next ≡ Nothing → final (stepOf d read .driver .phase) ≡ true
+finishes d read e = go (stepOf d read) (way d read)
+  where
+    go : (s : Step) → Way d s → s .next ≡ Nothing → final (s .driver .phase) ≡ true
+    go s (refused f) h = apart (sym f ∙ e)
+    go s (writes a x q l) h = let z : _≡_ {A = ℕ} 0 1 = cc in absurd (omega arith)
+    go s (wrote a x q l) h = let z : _≡_ {A = ℕ} 0 1 = cc in absurd (omega arith)
+    go s (waits q l) h = let z : _≡_ {A = ℕ} 0 1 = cc in absurd (omega arith)
+    go s (matched q l m) h = let z : _≡_ {A = ℕ} 0 1 = cc in absurd (omega arith)
+    go s (ends f i z c m) h = z
+
 -- ---- what is known of a step of a state in range
 pub record Kept (s : Step) : Type 0 where
   pub range : inRange (s .driver) ≡ true
   pub carried : pollsBy (s .driver) ≡ s .polls
   pub number : s .answer ≡ ending (s .driver .phase)
+  pub finished : s .next ≡ Nothing → final (s .driver .phase) ≡ true
   pub again : s .next ≡ Nothing → (read : ℕ) → stepOf (s .driver) read ≡ s
 
 pub kept : (d : Driver) (read : ℕ) → inRange d ≡ true → Kept (stepOf d read)
-kept d read e = record { range = keeps d read e; carried = carries d read e; number = answers d read e; again = λ h r. repeats d read r h }
+kept d read e = record { range = keeps d read e; carried = carries d read e; number = answers d read e; finished = finishes d read e; again = λ h r. repeats d read r h }

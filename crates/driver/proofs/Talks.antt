@@ -76,12 +76,12 @@ drop-done wp (w ∷ ws) (suc k) h = drop-done wp ws k (le-of-suc-le-suc h)
 
 -- ---- a talk, turn by turn
 module _ (part : ℕ) (wp : Bool) where
-  sends : (n k e q : ℕ) (d : Driver) (a : Action) (h : Chip) (o : Outcome) → cycleOf part (h .cells) (h .device) (cycle e wp a) ≡ o
+  pub sends : (n k e q : ℕ) (d : Driver) (a : Action) (h : Chip) (o : Outcome) → cycleOf part (h .cells) (h .device) (cycle e wp a) ≡ o
       → talk part wp (suc n) (step k d (Send e a) q) h ≡ led (cycle e wp a) (talk part wp n (stepOf d (o .reply .value)) (leaves o))
   unfolding talk after
   sends n k e q d a h o eq = ap (λ (o : Outcome). led (cycle e wp a) (talk part wp n (stepOf d (o .reply .value)) (leaves o))) eq
 
-  rests-told : (n k q : ℕ) (d : Driver) (h : Chip) → talk part wp n (step k d Nothing q) h ≡ told [] h (step k d Nothing q)
+  pub rests-told : (n k q : ℕ) (d : Driver) (h : Chip) → talk part wp n (step k d Nothing q) h ≡ told [] h (step k d Nothing q)
   unfolding talk
   rests-told zero k q d h = refl
   rests-told (suc n) k q d h = refl

@@ -1,6 +1,6 @@
 -- What is proved of the driver, over all parts at once. Every hypothesis stands in the statement; a refusal of 0 says that what is asked is accepted.
 use Prim.Native.Nat.{ℕ, _+_, _*_, _≤_}
-use mathlib.Core.Path.{_≡_, ap, _∙_}
+use mathlib.Core.Path.{_≡_, sym, ap, _∙_}
 use mathlib.Core.Bool.{Bool, true, false}
 use mathlib.Core.List.{List, [], _∷_, _++_, append-nil}
 use native.Mathlib.Omega.{arith}
@@ -28,7 +28,7 @@ use Rattle.driver.specs.declared.machine.Next.the-variants.{Nothing}
 use Rattle.driver.specs.declared.machine.Step.{Step}
 use Rattle.driver.specs.Refusals.{commandRefusal, startRefusal}
 use Rattle.driver.specs.Writes.{writesOf, writeCount}
-use Rattle.driver.specs.Machine.{addressOf, bitSeven, bitWanted, valueWanted, begun, startOf, mostPolls, moved, ending, ended, stepOf}
+use Rattle.driver.specs.Machine.{addressOf, bitSeven, bitWanted, valueWanted, begun, startOf, mostPolls, moved, ending, final, ended, stepOf}
 use Rattle.driver.specs.Talk.{cycle, writeCycles, operationOf, completed, shownAfter, Told, told, talk, Heard, heard, pollsIn}
 use Rattle.driver.proofs.Asked as Asked
 use Rattle.driver.proofs.Steps.{kept, few, counts, limits, falls, named}
@@ -123,22 +123,30 @@ module _ (part command address word p : ℕ) (wp : Bool) (cells : List ℕ) (d :
       let k = Asked.begun part command address word p accepted .asked .known in
       rw (eq-eqb shown (valueWanted r command word) same) at (performs (ap bitSeven same ∙ Shown.wanted-bit part command word k) n read enough)
 
-  -- That is so after every erase;
+  -- That is so after every erase,
   pub erase-shows : (command ≡ 0 → ⊥) → shown ≡ valueWanted r command word
   erase-shows e = let w = Asked.begun part command address word p accepted .asked in Shown.erase-shows part command address word (w .known) (w .target) cells whole e
+
+  pub erases : (command ≡ 0 → ⊥) → (n read : ℕ) → writeCount command + N + 1 ≤ n → talked n read ≡ told (sending N (cycle 0 wp (Read at) ∷ [])) leaving (ending-with N Done)
+  erases e = succeeds (erase-shows e)
 
   -- and after a program where no bit has to rise: there the shown value is the old one AND the data.
   pub program-shows : command ≡ 0 → shown ≡ bitAnd (valueOf (r .width) (getD cells address 0)) word
   program-shows z = let w = Asked.begun part command address word p accepted .asked in Shown.program-shows part command address word (w .known) (w .target) cells whole z
 
+  pub programs : command ≡ 0 → bitAnd (valueOf (r .width) (getD cells address 0)) word ≡ word → (n read : ℕ) → writeCount command + N + 1 ≤ n
+      → talked n read ≡ told (sending N (cycle 0 wp (Read at) ∷ [])) leaving (ending-with N Done)
+  programs z clears = succeeds (program-shows z ∙ (clears ∙ sym (simp (eq-eqb command 0 z))))
+
 -- ---- D3: whatever is replied
 -- how a talk stands that has ended: it names nothing more; its cycles are at most its writes, 2N polls and one confirming read; its poll count is that of
--- the polls sent, and at most 2N; its answer is the number of its ending, 0, 11 or 12; and it repeats its ending, whatever is read
+-- the polls sent, and at most 2N; its phase is one that ends, and its answer that ending's number, 0, 11 or 12; and it repeats its ending, whatever is read
 pub record Ended (part command p : ℕ) (t : Heard) : Type 0 where
   pub names-nothing : t .last .next ≡ Nothing
   pub cycles-few : length (t .cycles) ≤ writeCount command + pollsOf (rowOf part) command p * 2 + 1
   pub polls-counted : t .last .polls ≡ pollsIn (t .cycles)
   pub polls-few : t .last .polls ≤ pollsOf (rowOf part) command p * 2
+  pub finished : final (t .last .driver .phase) ≡ true
   pub numbered : t .last .answer ≡ ending (t .last .driver .phase)
   pub repeated : (read : ℕ) → stepOf (t .last .driver) read ≡ t .last
 
@@ -158,6 +166,7 @@ always-ends part command address word p accepted wp f read n enough =
       cycles-few = omega (arith, within wp n f (stepOf d read), falls d read);
       polls-counted = omega (arith, w .sum, counts d read wp i, ap (λ (x : Next). pollsIn (named wp x)) e);
       polls-few = omega (arith, few _ (w .stands .range), w .stands .carried, w .limit, limits d read);
+      finished = w .stands .finished e;
       numbered = w .stands .number;
       repeated = w .stands .again e;
     })

@@ -1,6 +1,6 @@
 -- The driver: a machine that hands its state back from each step.
 use Prim.Native.Nat.{ℕ, _+_, _*_, _/_, _%_}
-use mathlib.Core.Bool.{Bool, false}
+use mathlib.Core.Bool.{Bool, true, false}
 use lib.Dec.{eqb, ltb, leb}
 use Rattle.parts.specs.Pick.{pick}
 use Rattle.parts.specs.Width.{valueOf, blankOf}
@@ -94,6 +94,15 @@ ending Confirming = 0
 ending Done = 0
 ending GaveUp = 11
 ending Differs = 12
+
+-- the phases that end
+abbrev pub final : Phase → Bool
+final Writing = false
+final Polling = false
+final Confirming = false
+final Done = true
+final GaveUp = true
+final Differs = true
 
 -- the end, which a finished driver repeats
 abbrev pub ended : Driver → Phase → Step
