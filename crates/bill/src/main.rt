@@ -1,6 +1,7 @@
 // The program `bill`: reads a job file of at most 20,480 bytes from standard input, loads it onto a blank bench part, and
 // prints the bill; of a refusal only its answer line.
 use job::Bill;
+use jobfile::JobFile;
 
 // One line: what it is, and the number.
 fn line(label: &[u8], n: u64) {
@@ -22,26 +23,15 @@ fn print(b: Bill) {
     line(b"answer ", 0);
 }
 
-// The answer to a job file.
-fn answer(file: &[u8]) {
-    let asked = jobfile::read_job(file);
-    if 0 < asked.answer {
-        line(b"answer ", asked.answer as u64);
-        return;
-    }
-    let mut values = [0u16; 10240];
-    let count = asked.count;
-    if 10240 < count {
-        line(b"answer ", 13);
-        return;
-    }
-    jobfile::read_image(file, asked.start, &mut values[..count]);
+// The answer to a job whose file reads, its image going to values.
+fn load(file: &[u8], asked: JobFile, values: &mut [u16]) {
+    jobfile::read_image(file, asked.start, &mut *values);
     let mut cells = [0xffffu16; 8192];
     let b = job::load(
         asked.part,
         &mut cells,
         asked.first,
-        &values[..count],
+        &*values,
         asked.wp,
         asked.p,
     );
@@ -52,6 +42,21 @@ fn answer(file: &[u8]) {
     print(b);
 }
 
+// The answer to a job file; values has room for every image that a file of this length can hold.
+fn answer(file: &[u8], values: &mut [u16]) {
+    let asked = jobfile::read_job(file);
+    if 0 < asked.answer {
+        line(b"answer ", asked.answer as u64);
+        return;
+    }
+    let count = asked.count;
+    if values.len() < count {
+        line(b"answer ", 13);
+        return;
+    }
+    load(file, asked, &mut values[..count]);
+}
+
 fn main() {
     let mut file = [0u8; 20481];
     let n = io::read_full(0, &mut file);
@@ -59,5 +64,6 @@ fn main() {
         line(b"answer ", 13);
         return;
     }
-    answer(&file[..n]);
+    let mut values = [0u16; 10240];
+    answer(&file[..n], &mut values);
 }

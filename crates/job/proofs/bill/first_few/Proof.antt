@@ -1,14 +1,7 @@
+-- `job::bill::first_few` meets its contract.
 use Rattle.parts.proofs.Rules.{tests}
-use borrow.Author.Needs.{needs}
-use native.Mathlib.Omega.{arith}
-use mathlib.Core.Path.{_≡_, refl, ap, sym, _∙_}
-use Prim.Native.Nat.{ℕ, _+_, _-_, _*_, _/_, _≤_, _<_, _%_}
-use lib.ListN.{length, getD, take, drop, replicate}
-use borrow.Author.Tests.{eq-eqb, ne-eqb, lt-ltb, le-ltb, le-leb, lt-leb}
 use Rattle.job.proofs.bill.first_few.Statement.{statement}
 use Rattle.job.proofs.bill.first_few.Tie as tie
-use Rattle.job.proofs.bill.first_few.Reads as reads
-use Rattle.job.proofs.bill.first_few.Lts as lts
 
 returns : tie.Need-returns
 returns c = search tests

@@ -1,19 +1,13 @@
-use borrow.Author.Needs.{needs}
+-- `job::bill::full_time` meets its contract.
+use Prim.Native.Nat.{ℕ}
+use mathlib.Core.Path.{_≡_, ap, _∙_}
 use native.Mathlib.Omega.{arith}
-use mathlib.Core.Path.{_≡_, refl, ap, sym, _∙_}
+use borrow.Author.Needs.{needs}
 use Rattle.parts.specs.Time.{roundedUp, pollsOf}
-use Rattle.parts.proofs.Rules.{tests}
-use Prim.Native.Nat.{ℕ, _+_, _-_, _*_, _/_, _≤_, _<_, _%_}
-use lib.ListN.{length, getD, take, drop, replicate}
-use borrow.Author.Tests.{eq-eqb, ne-eqb, lt-ltb, le-ltb, le-leb, lt-leb}
 use Rattle.job.specs.Bill.{fullOf}
 use Rattle.job.proofs.Billing.{sectors-few, erases-fit, programs-fit, full-fits}
 use Rattle.job.proofs.bill.full_time.Statement.{statement}
 use Rattle.job.proofs.bill.full_time.Tie as tie
-use Rattle.job.proofs.bill.full_time.Reads as reads
-use Rattle.job.proofs.bill.full_time.Lts as lts
-use Rattle.parts.proofs.table.Row.time.Reads as time-reads
-use Rattle.parts.proofs.rounded_up.Reads as rounded-up-reads
 
 time-requires : tie.Need-time-requires
 time-requires c κs = search needs

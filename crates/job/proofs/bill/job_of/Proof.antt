@@ -1,18 +1,9 @@
+-- `job::bill::job_of` meets its contract.
+use mathlib.Core.Path.{ap}
 use borrow.Author.Needs.{needs}
-use native.Mathlib.Omega.{arith}
-use mathlib.Core.Path.{_≡_, refl, ap, sym, _∙_}
-use Rattle.parts.proofs.Rules.{tests}
-use Prim.Native.Nat.{ℕ, _+_, _-_, _*_, _/_, _≤_, _<_, _%_}
-use lib.ListN.{length, getD, take, drop, replicate}
-use borrow.Author.Tests.{eq-eqb, ne-eqb, lt-ltb, le-ltb, le-leb, lt-leb}
 use Rattle.parts.specs.declared.table.Found.{Found}
-use Rattle.parts.specs.declared.table.Row.{Row}
 use Rattle.job.proofs.bill.job_of.Statement.{statement}
 use Rattle.job.proofs.bill.job_of.Tie as tie
-use Rattle.job.proofs.bill.job_of.Reads as reads
-use Rattle.job.proofs.bill.job_of.Lts as lts
-use Rattle.parts.proofs.table.Row.sector_size.Reads as sector-size-reads
-use Rattle.parts.proofs.part_row.Reads as part-row-reads
 
 part-row-requires : tie.Need-part-row-requires
 part-row-requires c κs = search needs

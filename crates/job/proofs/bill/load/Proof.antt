@@ -1,27 +1,14 @@
-use borrow.Author.Needs.{needs}
-use native.Mathlib.Omega.{arith}
-use mathlib.Core.Path.{_≡_, refl, ap, sym, _∙_}
-use Rattle.job.specs.Bill.{jobOf}
-use Rattle.job.specs.Total.{sumOf}
+-- `job::bill::load` meets its contract.
 use Prim.Native.Nat.{_+_, _-_}
-use Rattle.parts.specs.declared.table.Row.{Row}
-use Rattle.job.specs.declared.loader.Job.{Job}
-use Rattle.job.proofs.Billing.{image-few, range-fits, kept, timed, few-sent, bills}
-use Rattle.parts.proofs.Rules.{tests}
-use Prim.Native.Nat.{ℕ, _+_, _-_, _*_, _/_, _≤_, _<_, _%_}
-use lib.ListN.{length, getD, take, drop, replicate}
-use borrow.Author.Tests.{eq-eqb, ne-eqb, lt-ltb, le-ltb, le-leb, lt-leb}
+use mathlib.Core.Path.{_≡_, refl, sym, _∙_}
+use native.Mathlib.Omega.{arith}
+use lib.ListN.{length}
+use borrow.Author.Needs.{needs}
+use borrow.Author.Tests.{ne-eqb}
 use Rattle.job.specs.Bill.{loadOf}
+use Rattle.job.proofs.Billing.{image-few, range-fits, kept, timed, few-sent, bills}
 use Rattle.job.proofs.bill.load.Statement.{statement}
 use Rattle.job.proofs.bill.load.Tie as tie
-use Rattle.job.proofs.bill.load.Reads as reads
-use Rattle.job.proofs.bill.load.Lts as lts
-use Rattle.job.proofs.bill.job_of.Reads as job-of-reads
-use Rattle.job.proofs.bill.refused_bill.Reads as refused-bill-reads
-use Rattle.job.proofs.bill.write_bill.Reads as write-bill-reads
-use Rattle.job.proofs.refusal.job_refusal.Reads as job-refusal-reads
-use Rattle.job.proofs.run.run.Reads as run-reads
-use Rattle.job.proofs.total.sum.Reads as sum-reads
 
 job-refusal-requires : tie.Need-job-refusal-requires
 job-refusal-requires c κs = search needs

@@ -1,22 +1,12 @@
-use borrow.Author.Needs.{needs}
+-- `job::bill::load_first` meets its contract.
+use mathlib.Core.Path.{_≡_, refl, sym, _∙_}
 use native.Mathlib.Omega.{arith}
-use mathlib.Core.Path.{_≡_, refl, ap, sym, _∙_}
-use Rattle.job.proofs.Billing.{image-few, kept, few-most, few-sent, reports}
-use Rattle.parts.proofs.Rules.{tests}
-use Prim.Native.Nat.{ℕ, _+_, _-_, _*_, _/_, _≤_, _<_, _%_}
-use lib.ListN.{length, getD, take, drop, replicate}
-use borrow.Author.Tests.{eq-eqb, ne-eqb, lt-ltb, le-ltb, le-leb, lt-leb}
+use borrow.Author.Needs.{needs}
+use borrow.Author.Tests.{ne-eqb}
 use Rattle.job.specs.Bill.{reportOf}
+use Rattle.job.proofs.Billing.{image-few, kept, few-most, few-sent, reports}
 use Rattle.job.proofs.bill.load_first.Statement.{statement}
 use Rattle.job.proofs.bill.load_first.Tie as tie
-use Rattle.job.proofs.bill.load_first.Reads as reads
-use Rattle.job.proofs.bill.load_first.Lts as lts
-use Rattle.job.proofs.bill.first_few.Reads as first-few-reads
-use Rattle.job.proofs.bill.job_of.Reads as job-of-reads
-use Rattle.job.proofs.bill.refused_report.Reads as refused-report-reads
-use Rattle.job.proofs.bill.write_report.Reads as write-report-reads
-use Rattle.job.proofs.refusal.job_refusal.Reads as job-refusal-reads
-use Rattle.job.proofs.run.run.Reads as run-reads
 
 job-refusal-requires : tie.Need-job-refusal-requires
 job-refusal-requires c κs = search needs
