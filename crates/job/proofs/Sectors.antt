@@ -72,7 +72,7 @@ module _ (j : Job) (image : List ℕ) (R : Right j image) where
     pub cells : w′ .cells ≡ w .cells
     pub reply : w′ .held .reply ≡ value (getD (w .cells) a 0)
 
-  reads-on : (w : World) (a : ℕ) → Ready w → a < r .cells → Read-on w a (sendOf (j .part) w Scan (reading a))
+  pub reads-on : (w : World) (a : ℕ) → Ready w → a < r .cells → Read-on w a (sendOf (j .part) w Scan (reading a))
   unfolding sendOf inRange
   reads-on w a g t =
       let o : cycleOf (j .part) (w .cells) (w .held .device) (reading a) ≡ outcome (w .cells) (valueOf (r .width) (getD (w .cells) a 0)) freshDevice =

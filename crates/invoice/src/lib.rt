@@ -1,0 +1,1 @@
+// What the customer pays for, of every accepted job: mathematics only, in proofs/.
