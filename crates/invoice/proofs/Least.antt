@@ -130,13 +130,13 @@ times-are r (o ∷ os) a b c =
 
 -- ---- the job's operations are the job's of the least time
 -- values that fit, in part
-fit-take : (w n : ℕ) (v : List ℕ) → fitAll w v ≡ true → fitAll w (take n v) ≡ true
+pub fit-take : (w n : ℕ) (v : List ℕ) → fitAll w v ≡ true → fitAll w (take n v) ≡ true
 unfolding fitAll
 fit-take w zero v f = refl
 fit-take w (suc n) [] f = refl
 fit-take w (suc n) (x ∷ v) f = let b = both (fitsIn w x) (fitAll w v) f in rw (b .0) (fit-take w n v (b .1))
 
-fit-drop : (w n : ℕ) (v : List ℕ) → fitAll w v ≡ true → fitAll w (drop n v) ≡ true
+pub fit-drop : (w n : ℕ) (v : List ℕ) → fitAll w v ≡ true → fitAll w (drop n v) ≡ true
 unfolding fitAll
 fit-drop w zero v f = f
 fit-drop w (suc n) [] f = refl

@@ -4,3 +4,4 @@ pub mod Bits
 pub mod Image
 pub mod Least
 pub mod Billed
+pub mod Loads

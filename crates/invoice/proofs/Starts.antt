@@ -10,6 +10,7 @@ use lib.Dec.{eqb}
 use lib.ListN.{length, replicate}
 use Rattle.parts.specs.Pick.{pick}
 use Rattle.parts.specs.Table.{rowOf}
+use Rattle.parts.proofs.Every.{both}
 use Rattle.parts.specs.Time.{pollsOf}
 use Rattle.chip.specs.declared.device.Device.{Device}
 use Rattle.chip.specs.declared.device.Operation.{Operation}
@@ -18,7 +19,8 @@ use Rattle.chip.specs.declared.cycle.Cycle.{Cycle}
 use Rattle.chip.specs.Device.{busy, idle}
 use Rattle.chip.specs.Sequence.{ignored}
 use Rattle.chip.specs.Cycle.{Chip, Outcome, outcome, shownOf, status, toggled, cycleRefusal, settledOf, readOf, acceptedOf, cycleOf}
-use Rattle.chip.specs.Trace.{after, play, startedBy, startedIn}
+use Rattle.chip.specs.Trace.{after, play, startedBy, startedIn, uncutAction, uncut}
+use Rattle.driver.specs.declared.writes.Write.{Write}
 use Rattle.driver.specs.Writes.{writesOf}
 use Rattle.driver.specs.Talk.{writeCycles, operationOf, cycle}
 use Rattle.driver.specs.Refusals.{startRefusal}
@@ -67,9 +69,26 @@ read-starts part h e wp a = by (eqb (cycleRefusal part (length (h .cells)) (h .d
     by true = rests (busy (s .device)) refl
     by false = refl
 
-reads-start : (part : ℕ) (h : Chip) (n e f : ℕ) (wp : Bool) (a : ℕ) → startedIn part h (replicate n (cycle e wp (Read a)) ++ (cycle f wp (Read a) ∷ [])) ≡ []
-reads-start part h zero e f wp a = rw (read-starts part h f wp a)
-reads-start part h (suc n) e f wp a = rw (read-starts part h e wp a) (reads-start part (after part h (cycle e wp (Read a))) n e f wp a)
+-- nor do n reads in front of cycles that start nothing
+pub reads-start : (part n e : ℕ) (wp : Bool) (a : ℕ) (cs : List Cycle) → ((h : Chip) → startedIn part h cs ≡ []) → (h : Chip) → startedIn part h (replicate n (cycle e wp (Read a)) ++ cs) ≡ []
+reads-start part zero e wp a cs none h = none h
+reads-start part (suc n) e wp a cs none h = rw (read-starts part h e wp a) (reads-start part n e wp a cs none (after part h (cycle e wp (Read a))))
+
+pub one-read-starts : (part e : ℕ) (wp : Bool) (a : ℕ) (h : Chip) → startedIn part h (cycle e wp (Read a) ∷ []) ≡ []
+one-read-starts part e wp a h = rw (read-starts part h e wp a)
+
+-- ---- no cut
+uncut-append : (cs ds : List Cycle) → uncut cs ≡ true → uncut ds ≡ true → uncut (cs ++ ds) ≡ true
+uncut-append [] ds a b = b
+uncut-append (c ∷ cs) ds a b = let w = both (uncutAction (c .action)) (uncut cs) a in rw (w .0) (uncut-append cs ds (w .1) b)
+
+writes-uncut : (wp : Bool) (ws : List Write) → uncut (writeCycles wp ws) ≡ true
+writes-uncut wp [] = refl
+writes-uncut wp (w ∷ ws) = writes-uncut wp ws
+
+reads-uncut : (n e f : ℕ) (wp : Bool) (a : ℕ) → uncut (replicate n (cycle e wp (Read a)) ++ (cycle f wp (Read a) ∷ [])) ≡ true
+reads-uncut zero e f wp a = refl
+reads-uncut (suc n) e f wp a = reads-uncut n e f wp a
 
 -- ---- the chip of a played list
 pub world-plays : (part : ℕ) (w : World) (L : List Sent) → chipOf (playOf part w L) ≡ play part (chipOf w) (cyclesIn L)
@@ -97,13 +116,14 @@ cycles-append : (L M : List Sent) → cyclesIn (L ++ M) ≡ cyclesIn L ++ cycles
 cycles-append L M = map-append (λ (s : Sent). s .cycle) L M
 
 -- ---- sent cycles
--- from the world w on, the cycles L start the operations os; what they count as erases and programs are those, and no others are among them
+-- from the world w on, the cycles L start the operations os; what they count as erases and programs are those, no others are among them, and there is no cut
 pub record Starts (part : ℕ) (w : World) (L : List Sent) (os : List Operation) : Type 0 where
   pub begun : startedIn part (chipOf w) (cyclesIn L) ≡ os
   pub erases : tallyOf L .erases ≡ many 1 os
   pub programs : tallyOf L .programs ≡ many 0 os
   pub blocks : many 2 os ≡ 0
   pub chips : many 3 os ≡ 0
+  pub whole : uncut (cyclesIn L) ≡ true
 
 many-append : (k : ℕ) (os ps : List Operation) → many k (os ++ ps) ≡ many k os + many k ps
 many-append k [] ps = sym (zero-add (many k ps))
@@ -113,7 +133,7 @@ module _ (part : ℕ) (w : World) where
   -- no cycle
   pub starts-none : Starts part w [] []
   unfolding tallyOf
-  starts-none = record { begun = refl; erases = refl; programs = refl; blocks = refl; chips = refl }
+  starts-none = record { begun = refl; erases = refl; programs = refl; blocks = refl; chips = refl; whole = refl }
 
   -- two lists in a row
   pub starts-append : (L M : List Sent) (os ps : List Operation) → Starts part w L os → Starts part (playOf part w L) M ps → Starts part w (L ++ M) (os ++ ps)
@@ -127,13 +147,14 @@ module _ (part : ℕ) (w : World) where
         programs = ap (λ (t : Tally). t .programs) (tally-append L M) ∙ omega (arith, many-append 0 os ps, s .programs, t .programs);
         blocks = omega (arith, many-append 2 os ps, s .blocks, t .blocks);
         chips = omega (arith, many-append 3 os ps, s .chips, t .chips);
+        whole = ap uncut (cycles-append L M) ∙ uncut-append (cyclesIn L) (cyclesIn M) (s .whole) (t .whole);
       }
 
   module _ (j : Job) (a : ℕ) where
     -- a read
     pub starts-read : Starts part w (scanRead j a ∷ []) []
     unfolding tallyOf
-    starts-read = record { begun = rw (read-starts part (chipOf w) 0 (j .wp) a); erases = refl; programs = refl; blocks = refl; chips = refl }
+    starts-read = record { begun = rw (read-starts part (chipOf w) 0 (j .wp) a); erases = refl; programs = refl; blocks = refl; chips = refl; whole = refl }
 
 -- an operation's cycles, from an idle chip, where it is accepted and not ignored
 module _ (j : Job) (command a x : ℕ) (few : command ≤ 1) (row : j .row ≡ rowOf (j .part)) (w : World)
@@ -156,7 +177,7 @@ module _ (j : Job) (command a x : ℕ) (few : command ≤ 1) (row : j .row ≡ r
       ap (startedIn (j .part) (chipOf w)) listed
       ∙ (started-append (j .part) (chipOf w) ws _
       ∙ ap₂ {A = List Operation} {B = List Operation} {C = List Operation} (λ x y. x ++ y) (s .1)
-      (reads-start (j .part) (play (j .part) (chipOf w) ws) n (j .p) 0 (j .wp) a))
+      (reads-start (j .part) n (j .p) (j .wp) a (cycle 0 (j .wp) (Read a) ∷ []) (one-read-starts (j .part) 0 (j .wp) a) (play (j .part) (chipOf w) ws)))
 
   tallies : (c : ℕ) → c ≤ 1 → (tallyOf (operated j c a x) .erases ≡ pick (eqb c 1) 1 0) × (tallyOf (operated j c a x) .programs ≡ pick (eqb c 0) 1 0)
   tallies zero le = (ap (λ (t : Tally). t .erases) (program-tally j a x), ap (λ (t : Tally). t .programs) (program-tally j a x))
@@ -169,4 +190,14 @@ module _ (j : Job) (command a x : ℕ) (few : command ≤ 1) (row : j .row ≡ r
   pub starts-operated : Starts (j .part) w (operated j command a x) (o ∷ [])
   starts-operated =
       let t = tallies command few in
-      record { begun = operated-begun; erases = omega (arith, t .0); programs = omega (arith, t .1); blocks = other command few 2 (omega arith); chips = other command few 3 (omega arith) }
+      let n = pollsOf (rowOf (j .part)) command (j .p) in
+      let ws = writeCycles (j .wp) (writesOf (rowOf (j .part)) command a x) in
+      let polls = replicate n (cycle (j .p) (j .wp) (Read a)) ++ (cycle 0 (j .wp) (Read a) ∷ []) in
+      record {
+        begun = operated-begun;
+        erases = omega (arith, t .0);
+        programs = omega (arith, t .1);
+        blocks = other command few 2 (omega arith);
+        chips = other command few 3 (omega arith);
+        whole = ap uncut listed ∙ uncut-append ws polls (writes-uncut (j .wp) (writesOf (rowOf (j .part)) command a x)) (reads-uncut n (j .p) 0 (j .wp) a);
+      }
