@@ -412,7 +412,7 @@ module _ (j : Job) (image : List ℕ) (R : Right j image) where
         → Rest j image (turned seen (firstOf j base)) w (sectorsSent j (j .first + base) n (drop (j .first + base) (w .cells)) (drop base image))
     unfolding firstOf sectorsSent
     sectors zero base seen w e m l g =
-        rest-is j image _ (turned seen (Stop 0)) w _ [] (ap (λ (b : Bool). turned seen (pick b (readsCell j Scanning base 0) (Stop 0))) (le-ltb base (j .count) (omega (arith, zero-mul (j .size))))) refl (rest-none j image seen 0 w)
+        rest-is j image _ (turned seen (Stop 0)) w _ [] (ap (λ (b : Bool). turned seen (pick b (readsCell j Scanning base 0) (Stop 0))) (le-ltb base (j .count) (omega (arith, zero-mul (j .size))))) refl (rest-none j image seen w)
     sectors (suc n) base seen w e m l g =
         let i : base + j .size ≤ j .count = omega (arith, suc-mul n (j .size)) in
         let x : base + j .size + n * j .size ≡ j .count = omega (arith, suc-mul n (j .size)) in
