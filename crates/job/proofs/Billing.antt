@@ -1,19 +1,16 @@
 -- What the two calls need of a job that is not refused, and what they hand back.
-use Prim.Native.Nat.{ℕ, _+_, _*_, _/_, _≤_, _<_}
+use Prim.Native.Nat.{ℕ, _+_, _*_, _/_, _≤_}
 use mathlib.Core.Path.{_≡_, refl, sym, ap, ap₂, _∙_}
-use mathlib.Core.Bool.{Bool, true, false}
+use mathlib.Core.Bool.{Bool}
 use mathlib.Core.List.{List}
 use native.Mathlib.Nat.{div-le-self, le-refl, mul-le-mul}
 use native.Mathlib.Omega.{arith}
 use borrow.Author.Tests.{ltb-true, ltb-false}
-use lib.Dec.{eqb, ltb}
+use lib.Dec.{ltb}
 use lib.ListN.{length, take, drop}
 use lib.Seq.{take-all}
-use Rattle.parts.specs.Pick.{pick}
-use Rattle.parts.specs.Width.{sectorSize}
 use Rattle.parts.specs.Table.{rowOf}
-use Rattle.parts.specs.Time.{timeOf, roundedUp, pollsOf}
-use Rattle.parts.specs.declared.table.Row.{Row}
+use Rattle.parts.specs.Time.{timeOf, pollsOf}
 use Rattle.parts.proofs.Every.{split}
 use Rattle.parts.proofs.Sound.{width-most, cells-most, time-most}
 use Rattle.parts.proofs.Ranges.{sector-some}
@@ -28,7 +25,7 @@ use Rattle.job.specs.Total.{sumOf}
 use Rattle.job.specs.Refusal.{jobRefusal}
 use Rattle.job.specs.Run.{World, world, noneSent, playOf, runFrom, stopFrom, ended}
 use Rattle.job.specs.Sent.{sentOf}
-use Rattle.job.specs.Bill.{Timed, jobOf, fullOf, firstFew, billOf, billed, reported, played, playedAll, Reported, reportOf, Loaded, loadOf}
+use Rattle.job.specs.Bill.{Timed, jobOf, fullOf, firstFew, billOf, billed, reported, played, playedAll, reportOf, loadOf}
 use Rattle.job.proofs.Accepts.{Passed, passed, sector-most}
 use Rattle.job.proofs.Runs.{runs, never-stops-short}
 use Rattle.job.proofs.Counts.{length-most}

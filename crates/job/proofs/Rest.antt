@@ -1,14 +1,13 @@
 -- "The rest": from a turn on, the cycles that the loader has yet to send are a list. An operation's are those of `operated`.
 use Prim.Native.Nat.{ℕ, zero, suc, _+_, _<_, _≤_}
 use mathlib.Core.Path.{_≡_, refl, sym, ap, _∙_}
-use mathlib.Core.Bool.{Bool, true, false}
+use mathlib.Core.Bool.{Bool}
 use mathlib.Core.List.{List, [], _∷_, _++_}
-use native.Mathlib.Omega.{arith}
 use borrow.Author.Tests.{eq-eqb}
-use lib.ListN.{length, take}
+use lib.ListN.{take}
 use Rattle.chip.specs.declared.cycle.Action.{Action}
 use Rattle.chip.specs.declared.cycle.Cycle.{Cycle}
-use Rattle.chip.specs.Cycle.{Chip, chip, Outcome, cycleOf}
+use Rattle.chip.specs.Cycle.{Chip, chip}
 use Rattle.chip.specs.Trace.{after}
 use Rattle.driver.specs.declared.machine.Driver.{Driver}
 use Rattle.driver.specs.declared.machine.Next.{Next}
@@ -19,13 +18,11 @@ use Rattle.driver.specs.Machine.{stepOf}
 use Rattle.driver.specs.Talk.{Told, told, led, shows, talk}
 use Rattle.job.specs.declared.loader.Job.{Job}
 use Rattle.job.specs.declared.loader.Stage.{Stage}
-use Rattle.job.specs.declared.loader.Stage.the-variants.{Erasing, Filling, Burning}
 use Rattle.job.specs.declared.loader.Loader.{Loader}
 use Rattle.job.specs.declared.loader.Purpose.{Purpose}
-use Rattle.job.specs.declared.loader.Turn.{Turn}
 use Rattle.job.specs.declared.loader.Turn.the-variants.{Play, Stop}
-use Rattle.job.specs.Loader.{Turned, turned, loader, cycle, purposeOf, goesOn, seenOf, stageOf, drivenOf, afterwards, within, turnOf}
-use Rattle.job.specs.Run.{Sent, sent, World, world, sendOf, playOf, runOf, stopOf}
+use Rattle.job.specs.Loader.{Turned, turned, loader, cycle, purposeOf, seenOf, stageOf, drivenOf, afterwards, turnOf}
+use Rattle.job.specs.Run.{Sent, sent, World, sendOf, playOf, runOf, stopOf}
 use Rattle.job.proofs.Within.{sector-in}
 use Rattle.job.proofs.Tags.{tagOf, tagged, Named, tag-step, silent}
 

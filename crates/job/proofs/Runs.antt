@@ -1,15 +1,14 @@
 -- The run of a right job is the playing of its one list, and no driver in it ends with anything but 0.
-use Prim.Native.Nat.{ℕ, _+_, _*_, _/_, _%_, _≤_, _<_}
-use mathlib.Core.Path.{_≡_, refl, sym, ap, _∙_}
+use Prim.Native.Nat.{ℕ, _+_, _*_, _/_, _≤_, _<_}
+use mathlib.Core.Path.{_≡_, refl}
 use mathlib.Core.List.{List}
 use native.Mathlib.Nat.{div-add-mod', zero-mod}
 use native.Mathlib.Omega.{arith}
-use lib.ListN.{length, take, drop, replicate, length-replicate}
+use lib.ListN.{length, take, replicate, length-replicate}
 use Rattle.parts.specs.Table.{rowOf}
 use Rattle.job.specs.declared.loader.Job.{Job}
-use Rattle.job.specs.Loader.{turned, firstOf}
-use Rattle.job.specs.Run.{Sent, World, world, noneSent, playOf, runFrom, stopFrom}
-use Rattle.job.specs.Sent.{sectorsSent, sentOf}
+use Rattle.job.specs.Run.{world, noneSent, playOf, runFrom, stopFrom}
+use Rattle.job.specs.Sent.{sentOf}
 use Rattle.job.proofs.Right.{Right}
 use Rattle.job.proofs.Rest.{Rest}
 use Rattle.job.proofs.Sectors.{sectors}
