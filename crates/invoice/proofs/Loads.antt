@@ -59,7 +59,7 @@ counted j e q = tally e q (e * N j 1 + q * N j 0) (j .count + j .count - e * j .
 -- the cells after operations, and the bill of them
 abbrev pub billedAt : Job → List Operation → List ℕ → Loaded
 billedAt j os after =
-    record { cells = after; bill = billOf j (counted j (many 1 os) (many 0 os)) (sumOf (rowOf (j .part) .width) (take (j .count) (drop (j .first) after))) }
+    record { cells = after; bill = billOf j (counted j (many 1 os) (many 0 os)) (sumOf (rowOf (j .part) .width) (take (j .count) (drop (j .first) after))) 0 }
 
 abbrev pub reckonedBy : Job → List ℕ → List Operation → Loaded
 reckonedBy j cells os = billedAt j os (perform (rowOf (j .part)) os cells)
