@@ -69,6 +69,34 @@ fn new_chip(s: Station, cells: &mut [u16], line: Line) -> Turn {
     u.is_silent()
 }
 
+// Command 11.
+fn refill_cells(s: Station, cells: &mut [u16], line: Line) -> Turn {
+    let from = line.size(1);
+    let to = line.size(2);
+    fill(cells, from, to, line.word(3), line.word(4), line.word(5));
+    s.is_silent()
+}
+
+// Command 12.
+fn patch_cell(s: Station, cells: &mut [u16], line: Line) -> Turn {
+    patch(cells, line.size(1), line.word(2));
+    s.is_silent()
+}
+
+// Commands 13 to 15, which change no cell.
+fn cells_say(s: Station, cells: &[u16], line: Line) -> Turn {
+    let c = line.number(0);
+    if c == 13 {
+        let v = value_at(cells, line.size(1));
+        return s.says(no_line().and(c).and16(v));
+    }
+    if c == 14 {
+        let h = hash(cells, line.size(1), line.size(2));
+        return s.says(no_line().and(c).and32(h));
+    }
+    s.with_part(line.long(1), line.size(2)).is_silent()
+}
+
 // Commands 10 to 15.
 pub(crate) fn cell_command(s: Station, cells: &mut [u16], line: Line) -> Turn {
     let c = line.number(0);
@@ -76,30 +104,10 @@ pub(crate) fn cell_command(s: Station, cells: &mut [u16], line: Line) -> Turn {
         return new_chip(s, cells, line);
     }
     if c == 11 {
-        let from = line.size(1);
-        fill(
-            cells,
-            from,
-            line.size(2),
-            line.word(3),
-            line.word(4),
-            line.word(5),
-        );
-        return s.is_silent();
+        return refill_cells(s, cells, line);
     }
     if c == 12 {
-        patch(cells, line.size(1), line.word(2));
-        return s.is_silent();
+        return patch_cell(s, cells, line);
     }
-    let said = no_line().and(c);
-    if c == 13 {
-        let v = value_at(&*cells, line.size(1));
-        return s.says(said.and16(v));
-    }
-    if c == 14 {
-        let h = hash(&*cells, line.size(1), line.size(2));
-        return s.says(said.and32(h));
-    }
-    let t = s.with_part(line.long(1), line.size(2));
-    t.is_silent()
+    cells_say(s, &*cells, line)
 }

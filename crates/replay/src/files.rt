@@ -53,10 +53,12 @@ fn parse_says(asked: JobFile, h: u32) -> Line {
     middle.and32(asked.p).and(asked.count as u64).and32(h)
 }
 
-// Command 62, over room for an image.
-fn parse(file: &[u8], values: &mut [u16]) -> Line {
+// Command 62.
+fn parse(s: Station, file: &[u8]) -> Turn {
+    let mut values = [0u16; 10240];
     let asked = jobfile::read_job(file);
-    parse_says(asked, image_hash(file, values, asked))
+    let h = image_hash(file, &mut values, asked);
+    s.says(parse_says(asked, h))
 }
 
 // The bill of a job file's job on some cells.
@@ -81,8 +83,8 @@ fn bill_says(b: Bill) -> Line {
     and_bill(no_line().and(63), b)
 }
 
-// Command 63 on blank cells, over room for an image.
-fn bill(file: &[u8], values: &mut [u16], cells: &mut [u16]) -> Line {
+// The bill of a file on blank cells.
+fn bill(file: &[u8], cells: &mut [u16]) -> Line {
     if 20480 < file.len() {
         return no_line().and(63).and(13);
     }
@@ -90,39 +92,54 @@ fn bill(file: &[u8], values: &mut [u16], cells: &mut [u16]) -> Line {
     if 0 < asked.answer {
         return no_line().and(63).and32(asked.answer);
     }
-    bill_says(bill_of(file, values, cells, asked))
+    let mut values = [0u16; 10240];
+    bill_says(bill_of(file, &mut values, cells, asked))
 }
 
-// The bench with blank cells and a fresh device.
-fn blank_bench(s: Station, cells: &mut [u16]) -> Station {
-    fill(cells, 0, 8192, 65535, 0, 65535);
+// The bill of a file on the bench's cells.
+fn bill_on(cells: &mut [u16], file: &[u8]) -> Line {
+    let n = least(8192, cells.len());
+    bill(file, &mut cells[0..n])
+}
+
+// The bench with a fresh device.
+fn bench(s: Station) -> Station {
     let t = s.with_part(0, 8192);
     t.with_device(chip::fresh(), s.reply)
 }
 
-// Commands 62 and 63 on a file.
-fn read_file(s: Station, cells: &mut [u16], file: &[u8], c: u64) -> Turn {
-    let mut values = [0u16; 10240];
-    if c == 62 {
-        return s.says(parse(file, &mut values));
+// Command 63.
+fn bench_bill(s: Station, cells: &mut [u16], file: &[u8]) -> Turn {
+    fill(&mut *cells, 0, 8192, 65535, 0, 65535);
+    let said = bill_on(cells, file);
+    bench(s).says(said)
+}
+
+// Command 60.
+fn new_file(s: Station, file: &mut [u8], line: Line) -> Turn {
+    let count = line.size(1);
+    fill_bytes(file, count, line.word(2), line.word(3));
+    s.with_file(count).is_silent()
+}
+
+// Commands 62 and 63, which change no byte.
+fn read_file(s: Station, cells: &mut [u16], file: &[u8], line: Line) -> Turn {
+    let n = least(s.file, file.len());
+    if line.number(0) == 62 {
+        return parse(s, &file[0..n]);
     }
-    let t = blank_bench(s, &mut *cells);
-    let n = least(8192, cells.len());
-    t.says(bill(file, &mut values, &mut cells[0..n]))
+    bench_bill(s, cells, &file[0..n])
 }
 
 // Commands 60 to 63.
 pub(crate) fn file_command(s: Station, cells: &mut [u16], file: &mut [u8], line: Line) -> Turn {
     let c = line.number(0);
     if c == 60 {
-        let count = line.size(1);
-        fill_bytes(file, count, line.word(2), line.word(3));
-        return s.with_file(count).is_silent();
+        return new_file(s, file, line);
     }
     if c == 61 {
         patch_bytes(file, line);
         return s.is_silent();
     }
-    let n = least(s.file, file.len());
-    read_file(s, cells, &file[0..n], c)
+    read_file(s, cells, &*file, line)
 }

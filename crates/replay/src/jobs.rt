@@ -80,21 +80,55 @@ fn copy_front(to: &mut [u16], from: &[u16], count: usize, mask: u16) {
 }
 
 // Command 53.
-fn copy_cells(
-    image: &mut [u16],
-    index: usize,
-    cells: &[u16],
-    from: usize,
-    count: usize,
-    mask: u16,
-) {
+fn copy_cells(s: Station, image: &mut [u16], cells: &[u16], line: Line) -> Turn {
+    let index = line.size(1);
+    let from = line.size(2);
     if image.len() < index {
-        return;
+        return s.is_silent();
     }
     if cells.len() < from {
-        return;
+        return s.is_silent();
     }
-    copy_front(&mut image[index..], &cells[from..], count, mask);
+    copy_front(
+        &mut image[index..],
+        &cells[from..],
+        line.size(3),
+        line.word(4),
+    );
+    s.is_silent()
+}
+
+// Command 50.
+fn new_image(s: Station, image: &mut [u16], line: Line) -> Turn {
+    let count = line.size(1);
+    fill(image, 0, count, line.word(2), line.word(3), line.word(4));
+    s.with_image(count).is_silent()
+}
+
+// Command 51.
+fn refill_image(s: Station, image: &mut [u16], line: Line) -> Turn {
+    let from = line.size(1);
+    let to = line.size(2);
+    fill(image, from, to, line.word(3), line.word(4), line.word(5));
+    s.is_silent()
+}
+
+// Command 52.
+fn patch_image(s: Station, image: &mut [u16], line: Line) -> Turn {
+    patch(image, line.size(1), line.word(2));
+    s.is_silent()
+}
+
+// Commands 50 to 52, which need no cells.
+fn image_command(s: Station, image: &mut [u16], line: Line) -> Turn {
+    let c = line.number(0);
+    if c == 50 {
+        return new_image(s, image, line);
+    }
+    if c == 51 {
+        return refill_image(s, image, line);
+    }
+    patch_image(s, image, line)
 }
 
 // Commands 50 to 55.
@@ -106,34 +140,8 @@ pub(crate) fn job_command(s: Station, cells: &mut [u16], image: &mut [u16], line
     if c == 55 {
         return load_first(s, cells, &*image, line);
     }
-    if c == 50 {
-        let count = line.size(1);
-        fill(image, 0, count, line.word(2), line.word(3), line.word(4));
-        return s.with_image(count).is_silent();
+    if c == 53 {
+        return copy_cells(s, image, &*cells, line);
     }
-    if c == 51 {
-        let from = line.size(1);
-        fill(
-            image,
-            from,
-            line.size(2),
-            line.word(3),
-            line.word(4),
-            line.word(5),
-        );
-        return s.is_silent();
-    }
-    if c == 52 {
-        patch(image, line.size(1), line.word(2));
-        return s.is_silent();
-    }
-    copy_cells(
-        image,
-        line.size(1),
-        &*cells,
-        line.size(2),
-        line.size(3),
-        line.word(4),
-    );
-    s.is_silent()
+    image_command(s, image, line)
 }
