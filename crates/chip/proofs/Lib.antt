@@ -7,5 +7,4 @@ pub mod Cases
 pub mod Effects
 pub mod Trace
 pub mod Ranges
-pub mod Marked
 pub mod Determined

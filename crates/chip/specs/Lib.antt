@@ -4,4 +4,3 @@ pub mod Sequence
 pub mod Cycle
 pub mod Sized
 pub mod Trace
-pub mod Marked

@@ -1,52 +1,42 @@
 -- What `load` hands back of a job that is not refused: the range holds the image, no other cell has changed, and the bill follows document 01's formulas.
-use Prim.Native.Nat.{ℕ, _+_, _-_, _*_, _/_, _≤_, _<_}
-use mathlib.Core.Path.{_≡_, refl, sym, ap, _∙_}
+use Prim.Native.Nat.{ℕ, _+_, _-_, _*_, _≤_}
+use mathlib.Core.Path.{_≡_, refl, _∙_}
 use mathlib.Core.Bool.{Bool}
 use mathlib.Core.List.{List}
 use native.Mathlib.Nat.{zero-add}
 use native.Mathlib.Omega.{arith}
 use borrow.Author.Tests.{eq-eqb}
-use lib.Dec.{eqb}
-use lib.ListN.{length, getD, take, drop}
-use Rattle.parts.specs.Width.{valueOf}
+use lib.ListN.{length}
 use Rattle.parts.specs.Table.{rowOf}
+use Rattle.parts.specs.Time.{timeOf}
 use Rattle.parts.proofs.Ranges.{sector-some}
-use Rattle.chip.specs.Device.{freshDevice}
-use Rattle.job.specs.declared.bill.Bill.{Bill}
+use Rattle.chip.specs.declared.device.Device.{Device}
+use Rattle.chip.specs.declared.cycle.Cycle.{Cycle}
+use Rattle.chip.specs.Device.{freshDevice, idle}
+use Rattle.chip.specs.Cycle.{chip}
+use Rattle.chip.specs.Trace.{startedIn}
 use Rattle.job.specs.declared.loader.Job.{Job}
-use Rattle.job.specs.declared.run.Tally.{Tally}
-use Rattle.job.specs.Total.{sumOf}
 use Rattle.job.specs.Refusal.{jobRefusal}
-use Rattle.job.specs.Run.{World, world, noneSent, playOf}
+use Rattle.job.specs.Run.{world, noneSent}
 use Rattle.job.specs.Sent.{sentOf}
-use Rattle.job.specs.Bill.{jobOf, fullOf, playedAll, Loaded, loadOf}
-use Rattle.job.specs.Formulas.{N, tallyOf, noTally, plus}
+use Rattle.job.specs.Bill.{jobOf, fullOf, playedAll, loadOf}
+use Rattle.job.specs.Formulas.{tallyOf}
 use Rattle.job.proofs.Accepts.{Passed, passed}
 use Rattle.job.proofs.Counts.{play-tally, job-fair, time-most}
+use Rattle.invoice.specs.Started.{cyclesIn, tableTime}
+use Rattle.invoice.specs.Invoice.{started, Invoice, Rival}
+use Rattle.invoice.proofs.Starts.{world-plays}
 use Rattle.invoice.proofs.Image.{image-held}
-
--- what is said of a loaded job, that came to the cells and the bill of l
-pub record Invoice (part : ℕ) (cells : List ℕ) (first : ℕ) (image : List ℕ) (wp : Bool) (p : ℕ) (l : Loaded) : Type 0 where
-  pub holds : (i : ℕ) → i < length image → valueOf (rowOf part .width) (getD (l .cells) (first + i) 0) ≡ getD image i 0
-  pub below : (i : ℕ) → i < first → getD (l .cells) i 0 ≡ getD cells i 0
-  pub above : (i : ℕ) → first + length image ≤ i → getD (l .cells) i 0 ≡ getD cells i 0
-  pub rests : playedAll part cells first image wp p .held .device ≡ freshDevice
-  pub answer : l .bill .answer ≡ 0
-  pub polls : l .bill .polls ≡ l .bill .erases * N (jobOf part first (length image) wp p) 1 + l .bill .programs * N (jobOf part first (length image) wp p) 0
-  pub spent : l .bill .spent ≡ l .bill .polls * p
-  pub confirms : l .bill .confirms ≡ l .bill .erases + l .bill .programs
-  pub scans : l .bill .scans + l .bill .erases * jobOf part first (length image) wp p .size ≡ length image + length image
-  pub saved : l .bill .saved + l .bill .spent ≡ fullOf (jobOf part first (length image) wp p)
-  pub sum : l .bill .sum ≡ sumOf (rowOf part .width) (take (length image) (drop first (l .cells)))
+use Rattle.invoice.proofs.Least.{held, job-times, no-less}
 
 module _ (part : ℕ) (cells : List ℕ) (first : ℕ) (image : List ℕ) (wp : Bool) (p : ℕ) (accepted : jobRefusal part (length cells) first image wp p ≡ 0) where
   abbrev j : Job
   j = jobOf part first (length image) wp p
 
-  ok : Passed part (length cells) first image wp p
+  pub ok : Passed part (length cells) first image wp p
   ok = passed part (length cells) first image wp p accepted
 
-  tally-is : playedAll part cells first image wp p .held .tally ≡ tallyOf (sentOf j image cells)
+  pub tally-is : playedAll part cells first image wp p .held .tally ≡ tallyOf (sentOf j image cells)
   tally-is = play-tally part (world cells noneSent) (sentOf j image cells) ∙ simp zero-add
 
   pub invoice : Invoice part cells first image wp p (loadOf part cells first image wp p)
@@ -55,6 +45,7 @@ module _ (part : ℕ) (cells : List ℕ) (first : ℕ) (image : List ℕ) (wp : 
       let h = image-held j image (ok .right) cells (ok .whole) (sector-some (rowOf part .width)) in
       let f = job-fair j image (ok .right) cells (ok .whole) in
       let t = tally-is in
+      let s = held j image (ok .right) cells (ok .whole) in
       rw (eq-eqb (jobRefusal part (length cells) first image wp p) 0 accepted)
       (record {
         holds = h .holds;
@@ -68,4 +59,39 @@ module _ (part : ℕ) (cells : List ℕ) (first : ℕ) (image : List ℕ) (wp : 
         scans = rw t (f .scans);
         saved = rw t (omega (arith, time-most j image (ok .right) cells (ok .whole)));
         sum = refl;
+        erases = rw (t, s .begun) (s .erases);
+        programs = rw (t, s .begun) (s .programs);
+        blocks = rw (s .begun) (s .blocks);
+        chips = rw (s .begun) (s .chips);
       })
+
+  -- no list of bus cycles that also loads the image starts operations whose table times add up to less than those of the operations that the job starts
+  pub least : (d : Device) (cs : List Cycle) → Rival part cells first image d cs
+      → tableTime (rowOf part) (started part cells first image wp p) ≤ tableTime (rowOf part) (startedIn part (chip cells d) cs)
+  least d cs v =
+      rw (held j image (ok .right) cells (ok .whole) .begun)
+      (no-less j image (ok .right) cells (ok .whole) d cs (v .begins) (v .uncut) (v .blocks) (v .chips) (v .ends) (v .holds))
+
+  -- the job's own cycles are such a list
+  pub job-rivals : Rival part cells first image freshDevice (cyclesIn (sentOf j image cells))
+  unfolding idle
+  job-rivals =
+      let s = held j image (ok .right) cells (ok .whole) in
+      let h = image-held j image (ok .right) cells (ok .whole) (sector-some (rowOf part .width)) in
+      let e = world-plays part (world cells noneSent) (sentOf j image cells) in
+      record {
+        begins = refl;
+        uncut = s .whole;
+        blocks = rw (s .begun) (s .blocks);
+        chips = rw (s .begun) (s .chips);
+        ends = rw (← e, h .ready .rest);
+        holds = rw (← e) (h .holds);
+      }
+
+  -- and those table times are of the bill's erases and programs
+  pub table-time : tableTime (rowOf part) (started part cells first image wp p)
+      ≡ loadOf part cells first image wp p .bill .erases * timeOf (rowOf part) 1 + loadOf part cells first image wp p .bill .programs * timeOf (rowOf part) 0
+  unfolding loadOf
+  table-time =
+      rw (held j image (ok .right) cells (ok .whole) .begun, eq-eqb (jobRefusal part (length cells) first image wp p) 0 accepted, tally-is)
+      (job-times j image (ok .right) cells (ok .whole))

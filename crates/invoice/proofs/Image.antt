@@ -7,7 +7,7 @@ use native.Mathlib.Nat.{le-refl, not-suc-le-zero, le-of-suc-le-suc, add-mod-righ
 use native.Mathlib.Omega.{arith}
 use borrow.Author.Tests.{eqb-true, ltb-true, ltb-false}
 use lib.Dec.{eqb, ltb}
-use lib.ListN.{length, getD, set, take, drop, replicate, length-set, length-take, length-drop, length-map, List·getD-append}
+use lib.ListN.{length, getD, take, drop, replicate, length-set, length-drop, length-map, List·getD-append}
 use lib.Seq.{length-take-le, getD-take, getD-drop, getD-set-other}
 use lib.Bits.{bitAnd, and-comm, and-mask}
 use Rattle.parts.specs.Pick.{pick}
@@ -18,8 +18,7 @@ use Rattle.parts.specs.Time.{pollsOf}
 use Rattle.parts.specs.declared.table.Row.{Row}
 use Rattle.chip.specs.Sequence.{ignored}
 use Rattle.chip.specs.declared.cycle.Action.the-variants.{Read}
-use Rattle.chip.specs.declared.cycle.Cycle.{Cycle}
-use Rattle.chip.specs.declared.device.Device.{Device}
+use Rattle.chip.specs.declared.device.Operation.{Operation}
 use Rattle.chip.specs.Device.{freshDevice, idle}
 use Rattle.chip.specs.Cycle.{Chip, chip}
 use Rattle.chip.specs.Trace.{after, play}
@@ -29,18 +28,20 @@ use Rattle.driver.specs.declared.machine.Step.{Step}
 use Rattle.driver.specs.Refusals.{startRefusal}
 use Rattle.driver.specs.Writes.{writesOf, writeCount}
 use Rattle.driver.specs.Machine.{addressOf, valueWanted, startOf, stepOf}
-use Rattle.driver.specs.Talk.{Told, talk, writeCycles, completed, shownAfter, shows, cycle}
+use Rattle.driver.specs.Talk.{talk, writeCycles, operationOf, completed, shownAfter, shows, cycle}
 use Rattle.driver.proofs.Theorems.{succeeds, program-shows, erase-shows}
 use Rattle.job.specs.declared.loader.Job.{Job}
-use Rattle.job.specs.declared.loader.Purpose.the-variants.{Scan, Poll, Confirm}
 use Rattle.job.specs.Search.{rises}
-use Rattle.job.specs.Run.{Sent, sent, World, world, noneSent, sendOf, playOf}
+use Rattle.job.specs.Run.{Sent, World, world, noneSent, playOf}
 use Rattle.job.specs.Sent.{operated, scanRead, scans, fills, looks, sectorSent, sectorsSent, sentOf}
 use Rattle.job.proofs.Rest.{chipOf, talk-stops, talk-goes}
 use Rattle.job.proofs.Right.{Right, program-starts, erase-starts, fit-at}
 use Rattle.job.proofs.Clears.{clears, none-rises}
 use Rattle.job.proofs.Left.{program-leaves, erase-length, erase-drop, erase-at, erase-leaves}
 use Rattle.job.proofs.Sectors.{Ready, Read-on, reads-on}
+use Rattle.invoice.specs.Started.{cyclesIn}
+use Rattle.invoice.proofs.Listed.{programming, filling, looking, sectoring, sectoringAll, operationsOf}
+use Rattle.invoice.proofs.Starts.{world-plays, play-append, operated-cycles, Starts, starts-none, starts-append, starts-read, starts-operated}
 
 -- ---- a talk leaves what its cycles leave
 abbrev Plays : ℕ → Bool → ℕ → Step → Chip → Type 0
@@ -54,31 +55,6 @@ talk-plays : (part : ℕ) (wp : Bool) (m : ℕ) (t : Step) (h : Chip) → Plays 
 unfolding talk
 talk-plays part wp zero t h = refl
 talk-plays part wp (suc m) t h = plays-on part wp m (talk-plays part wp m) t h (t .next) refl
-
--- ---- the chip of a played list
-abbrev cycleIn : Sent → Cycle
-cycleIn s = s .cycle
-
-world-plays : (part : ℕ) (w : World) (L : List Sent) → chipOf (playOf part w L) ≡ play part (chipOf w) (map cycleIn L)
-unfolding sendOf after
-world-plays part w [] = refl
-world-plays part w (s ∷ L) = world-plays part (sendOf part w (s .purpose) (s .cycle)) L
-
-play-append : (part : ℕ) (w : World) (L M : List Sent) → playOf part w (L ++ M) ≡ playOf part (playOf part w L) M
-play-append part w [] M = refl
-play-append part w (s ∷ L) M = play-append part (sendOf part w (s .purpose) (s .cycle)) L M
-
-polls-cycles : (n : ℕ) (c d : Cycle) → map cycleIn (replicate n (sent Poll c) ++ (sent Confirm d ∷ [])) ≡ replicate n c ++ (d ∷ [])
-polls-cycles zero c d = refl
-polls-cycles (suc n) c d = ap (λ (l : List Cycle). c ∷ l) (polls-cycles n c d)
-
-operated-cycles : (j : Job) (command a x : ℕ) → command ≤ 1
-    → map cycleIn (operated j command a x)
-    ≡ writeCycles (j .wp) (writesOf (j .row) command a x) ++ (replicate (pollsOf (j .row) command (j .p)) (cycle (j .p) (j .wp) (Read a)) ++ (cycle 0 (j .wp) (Read a) ∷ []))
-unfolding operated writesOf
-operated-cycles j zero a x le = ap (λ (l : List Cycle). writeCycles (j .wp) (writesOf (j .row) 0 a x) ++ l) (polls-cycles (pollsOf (j .row) 0 (j .p)) _ _)
-operated-cycles j (suc zero) a x le = ap (λ (l : List Cycle). writeCycles (j .wp) (writesOf (j .row) 1 a x) ++ l) (polls-cycles (pollsOf (j .row) 1 (j .p)) _ _)
-operated-cycles j (suc (suc c)) a x le = absurd (omega arith)
 
 module _ (j : Job) (image : List ℕ) (R : Right j image) where
   abbrev r : Row
@@ -101,18 +77,23 @@ module _ (j : Job) (image : List ℕ) (R : Right j image) where
       world-plays (j .part) w (operated j command a x)
       ∙ (ap (play (j .part) (chipOf w)) (cycles-are command few) ∙ (rw t at (talk-plays (j .part) (j .wp) n first (chipOf w))))
     where
-      cycles-are : (command : ℕ) → command ≤ 1 → map cycleIn (operated j command a x)
+      cycles-are : (command : ℕ) → command ≤ 1 → cyclesIn (operated j command a x)
           ≡ writeCycles (j .wp) (writesOf r command a x) ++ (replicate (pollsOf r command (j .p)) (cycle (j .p) (j .wp) (Read (addressOf command a))) ++ (cycle 0 (j .wp) (Read (addressOf command a)) ∷ []))
       cycles-are zero le = rw (← R .row) (operated-cycles j 0 a x le)
       cycles-are (suc zero) le = rw (← R .row) (operated-cycles j 1 a x le)
       cycles-are (suc (suc c)) le = absurd (omega arith)
 
+  -- the world after a list of cycles
+  abbrev after-all : World → List Sent → World
+  after-all w L = playOf (j .part) w L
+
   -- ---- one cell
-  -- the world w′ is w with the value x at address a, at rest
-  record Put (w : World) (a x : ℕ) (w′ : World) : Type 0 where
-    ready : Ready j image R w′
-    others : (i : ℕ) → (i ≡ a → ⊥) → at w′ i ≡ at w i
-    here : value (at w′ a) ≡ x
+  -- from w on, the cycles L put the value x at address a, start the operations os, and leave the chip at rest
+  record Put (w : World) (a x : ℕ) (L : List Sent) (os : List Operation) : Type 0 where
+    ready : Ready j image R (after-all w L)
+    others : (i : ℕ) → (i ≡ a → ⊥) → at (after-all w L) i ≡ at w i
+    here : value (at (after-all w L) a) ≡ x
+    starts : Starts (j .part) w L os
 
   -- what may be asked for at address a: a program of x, and a sector erase
   record May (a x : ℕ) : Type 0 where
@@ -122,7 +103,7 @@ module _ (j : Job) (image : List ℕ) (R : Right j image) where
     heeds-program : ignored r (j .wp) 0 a ≡ false
     heeds-erase : ignored r (j .wp) 1 a ≡ false
 
-  programs-cell : (a x : ℕ) (w : World) → May a x → Ready j image R w → bitAnd (value (at w a)) x ≡ x → Put w a x (playOf (j .part) w (operated j 0 a x))
+  programs-cell : (a x : ℕ) (w : World) → May a x → Ready j image R w → bitAnd (value (at w a)) x ≡ x → Put w a x (operated j 0 a x) (programming j a x)
   unfolding idle
   programs-cell a x w m g clears =
       let shown = program-shows (j .part) 0 a x (j .p) (j .wp) (w .cells) (w .held .device) (m .program) (g .whole) (rw (g .rest)) (m .heeds-program) refl in
@@ -133,29 +114,35 @@ module _ (j : Job) (image : List ℕ) (R : Right j image) where
         ready = record { rest = ap (λ (h : Chip). h .device) c; whole = ap length e ∙ (length-set (w .cells) a (bitAnd (at w a) x) ∙ g .whole) };
         others = λ i n. ap (λ (l : List ℕ). getD l i 0) e ∙ getD-set-other (w .cells) a i (bitAnd (at w a) x) 0 n;
         here = ap (λ (l : List ℕ). value (getD l a 0)) done ∙ (shown ∙ clears);
+        starts = starts-operated j 0 a x (omega arith) (R .row) w (m .program) (g .whole) (rw (g .rest)) (m .heeds-program);
       }
 
   -- ---- a stretch of cells
-  -- the world w′ is w with the values v from address a on, at rest
-  pub record Holds (w : World) (a : ℕ) (v : List ℕ) (w′ : World) : Type 0 where
-    pub ready : Ready j image R w′
-    pub below : (i : ℕ) → i < a → at w′ i ≡ at w i
-    pub above : (i : ℕ) → a + length v ≤ i → at w′ i ≡ at w i
-    pub holds : (i : ℕ) → i < length v → value (at w′ (a + i)) ≡ getD v i 0
+  -- from w on, the cycles L put the values v from address a on, start the operations os, and leave the chip at rest
+  pub record Holds (w : World) (a : ℕ) (v : List ℕ) (L : List Sent) (os : List Operation) : Type 0 where
+    pub ready : Ready j image R (after-all w L)
+    pub below : (i : ℕ) → i < a → at (after-all w L) i ≡ at w i
+    pub above : (i : ℕ) → a + length v ≤ i → at (after-all w L) i ≡ at w i
+    pub holds : (i : ℕ) → i < length v → value (at (after-all w L) (a + i)) ≡ getD v i 0
+    pub starts : Starts (j .part) w L os
 
-  holds-none : (w : World) (a : ℕ) → Ready j image R w → Holds w a [] w
-  holds-none w a g = record { ready = g; below = λ i h. refl; above = λ i h. refl; holds = λ i h. absurd (not-suc-le-zero h) }
+  holds-none : (w : World) (a : ℕ) → Ready j image R w → Holds w a [] [] []
+  holds-none w a g =
+      record { ready = g; below = λ i h. refl; above = λ i h. refl; holds = λ i h. absurd (not-suc-le-zero h); starts = starts-none (j .part) w }
 
-  holds-more : (w w′ w″ : World) (a x : ℕ) (v : List ℕ) → Put w a x w′ → Holds w′ (a + 1) v w″ → Holds w a (x ∷ v) w″
-  holds-more w w′ w″ a x v p h =
+  holds-more : (w : World) (a x : ℕ) (v : List ℕ) (L M : List Sent) (os ps : List Operation)
+      → Put w a x L os → Holds (after-all w L) (a + 1) v M ps → Holds w a (x ∷ v) (L ++ M) (os ++ ps)
+  holds-more w a x v L M os ps p h =
+      let e = play-append (j .part) w L M in
       record {
-        ready = h .ready;
-        below = λ i l. h .below i (omega arith) ∙ p .others i (λ q. omega arith);
-        above = λ i l. h .above i (omega arith) ∙ p .others i (λ q. omega arith);
-        holds = λ i l. by i l;
+        ready = rw e (h .ready);
+        below = λ i l. rw e (h .below i (omega arith) ∙ p .others i (λ q. omega arith));
+        above = λ i l. rw e (h .above i (omega arith) ∙ p .others i (λ q. omega arith));
+        holds = λ i l. rw e (by i l);
+        starts = starts-append (j .part) w L M os ps (p .starts) (h .starts);
       }
     where
-      by : (i : ℕ) → i < suc (length v) → value (at w″ (a + i)) ≡ getD (x ∷ v) i 0
+      by : (i : ℕ) → i < suc (length v) → value (at (after-all (after-all w L) M) (a + i)) ≡ getD (x ∷ v) i 0
       by zero l = let z : a + 0 ≡ a = omega arith in rw z (ap value (h .below a (omega arith)) ∙ p .here)
       by (suc i) l = let z : a + suc i ≡ a + 1 + i = omega arith in rw z (h .holds i (omega arith))
 
@@ -176,8 +163,9 @@ module _ (j : Job) (image : List ℕ) (R : Right j image) where
   each-here : (P : ℕ → ℕ → Type 0) (w : World) (a x : ℕ) (v : List ℕ) → Each P w a (x ∷ v) → P (at w a) x
   each-here P w a x v e = let z : a + 0 ≡ a = omega arith in rw z at (e 0 (omega arith))
 
-  each-more : (P : ℕ → ℕ → Type 0) (w w′ : World) (a x : ℕ) (v : List ℕ) → Put w a x w′ → Each P w a (x ∷ v) → Each P w′ (a + 1) v
-  each-more P w w′ a x v p e = λ i h.
+  each-more : (P : ℕ → ℕ → Type 0) (w : World) (a x : ℕ) (v : List ℕ) (L : List Sent) (os : List Operation)
+      → Put w a x L os → Each P w a (x ∷ v) → Each P (after-all w L) (a + 1) v
+  each-more P w a x v L os p e = λ i h.
       let z : a + suc i ≡ a + 1 + i = omega arith in
       let o = p .others (a + 1 + i) (λ q. omega arith) in
       rw o (rw z at (e (suc i) (omega arith)))
@@ -186,94 +174,116 @@ module _ (j : Job) (image : List ℕ) (R : Right j image) where
   abbrev Blank : ℕ → ℕ → Type 0
   Blank o x = (value o ≡ blankOf (r .width)) × (bitAnd (blankOf (r .width)) x ≡ x)
 
-  filled : (a : ℕ) (v : List ℕ) (w : World) → Ready j image R w → Along a v → Each Blank w a v → Holds w a v (playOf (j .part) w (fills j a v))
-  unfolding fills
+  filled : (a : ℕ) (v : List ℕ) (w : World) → Ready j image R w → Along a v → Each Blank w a v → Holds w a v (fills j a v) (filling j a v)
+  unfolding fills filling
   filled a [] w g m b = holds-none w a g
-  filled a (x ∷ v) w g m b = by (eqb x (blankOf (j .row .width))) refl (λ w′ p. filled (a + 1) v w′ (p .ready) (along-more a x v m) (each-more Blank w w′ a x v p b))
+  filled a (x ∷ v) w g m b =
+      by (eqb x (blankOf (j .row .width))) refl
+      (λ L os p. holds-more w a x v L (fills j (a + 1) v) os (filling j (a + 1) v) p
+      (filled (a + 1) v (after-all w L) (p .ready) (along-more a x v m) (each-more Blank w a x v L os p b)))
     where
       f : (value (at w a) ≡ blankOf (r .width)) × (bitAnd (blankOf (r .width)) x ≡ x)
       f = each-here Blank w a x v b
 
-      by : (t : Bool) → eqb x (blankOf (j .row .width)) ≡ t → ((w′ : World) → Put w a x w′ → Holds w′ (a + 1) v (playOf (j .part) w′ (fills j (a + 1) v)))
-          → Holds w a (x ∷ v) (playOf (j .part) w (pick t [] (operated j 0 a x) ++ fills j (a + 1) v))
-      by true t ih =
-          let p : Put w a x w = record { ready = g; others = λ i n. refl; here = f .0 ∙ sym (rw (R .row) at (eqb-true x (blankOf (j .row .width)) t)) } in
-          holds-more w w (playOf (j .part) w (fills j (a + 1) v)) a x v p (ih w p)
-      by false t ih =
-          let w′ = playOf (j .part) w (operated j 0 a x) in
-          let p = programs-cell a x w (along-here a x v m) g (rw (f .0) (f .1)) in
-          rw (play-append (j .part) w (operated j 0 a x) (fills j (a + 1) v)) (holds-more w w′ (playOf (j .part) w′ (fills j (a + 1) v)) a x v p (ih w′ p))
+      by : (t : Bool) → eqb x (blankOf (j .row .width)) ≡ t
+          → ((L : List Sent) (os : List Operation) → Put w a x L os → Holds w a (x ∷ v) (L ++ fills j (a + 1) v) (os ++ filling j (a + 1) v))
+          → Holds w a (x ∷ v) (pick t [] (operated j 0 a x) ++ fills j (a + 1) v) (pick t [] (programming j a x) ++ filling j (a + 1) v)
+      by true t more =
+          more [] []
+          (record { ready = g; others = λ i n. refl; here = f .0 ∙ sym (rw (R .row) at (eqb-true x (blankOf (j .row .width)) t)); starts = starts-none (j .part) w })
+      by false t more = more (operated j 0 a x) (programming j a x) (programs-cell a x w (along-here a x v m) g (rw (f .0) (f .1)))
 
   -- ---- an unerased sector: every cell is read again, and programmed where it differs
   abbrev Clear : ℕ → ℕ → Type 0
   Clear o x = bitAnd (value o) x ≡ x
 
   -- a read changes nothing
-  read-put : (a x : ℕ) (w : World) → a < r .cells → Ready j image R w → value (at w a) ≡ x → Put w a x (sendOf (j .part) w Scan (cycle 0 (j .wp) (Read a)))
+  read-put : (a x : ℕ) (w : World) → a < r .cells → Ready j image R w → value (at w a) ≡ x → Put w a x (scanRead j a ∷ []) []
   read-put a x w t g e =
       let o = reads-on j image R w a g t in
-      record { ready = o .ready; others = λ i n. ap (λ (l : List ℕ). getD l i 0) (o .cells); here = ap (λ (l : List ℕ). value (getD l a 0)) (o .cells) ∙ e }
+      record {
+        ready = o .ready;
+        others = λ i n. ap (λ (l : List ℕ). getD l i 0) (o .cells);
+        here = ap (λ (l : List ℕ). value (getD l a 0)) (o .cells) ∙ e;
+        starts = starts-read (j .part) w j a;
+      }
 
-  put-after : (w w′ w″ : World) (a x : ℕ) → w′ .cells ≡ w .cells → Put w′ a x w″ → Put w a x w″
-  put-after w w′ w″ a x e p = record { ready = p .ready; others = λ i n. p .others i n ∙ ap (λ (l : List ℕ). getD l i 0) e; here = p .here }
+  -- nor does one in front
+  put-after : (a x : ℕ) (w : World) (L : List Sent) (os : List Operation) → Read-on j image R w a (after-all w (scanRead j a ∷ []))
+      → Put (after-all w (scanRead j a ∷ [])) a x L os → Put w a x (scanRead j a ∷ L) os
+  put-after a x w L os o p =
+      record {
+        ready = p .ready;
+        others = λ i n. p .others i n ∙ ap (λ (l : List ℕ). getD l i 0) (o .cells);
+        here = p .here;
+        starts = starts-append (j .part) w (scanRead j a ∷ []) L [] os (starts-read (j .part) w j a) (p .starts);
+      }
 
   abbrev SameAs : List ℕ → World → ℕ → ℕ → Type 0
   SameAs l w a n = (i : ℕ) → i < n → getD l i 0 ≡ at w (a + i)
 
-  looked : (a : ℕ) (l v : List ℕ) (w : World) → length l ≡ length v → SameAs l w a (length l) → Ready j image R w → Along a v → Each Clear w a v → Holds w a v (playOf (j .part) w (looks j a l v))
-  unfolding looks
+  looked : (a : ℕ) (l v : List ℕ) (w : World) → length l ≡ length v → SameAs l w a (length l) → Ready j image R w → Along a v → Each Clear w a v
+      → Holds w a v (looks j a l v) (looking j a l v)
+  unfolding looks looking
   looked a [] [] w n s g m b = holds-none w a g
   looked a [] (x ∷ v) w n s g m b = absurd (omega arith)
   looked a (o ∷ l) [] w n s g m b = absurd (omega arith)
   looked a (o ∷ l) (x ∷ v) w n s g m b =
       by (eqb (valueOf (j .row .width) o) x) refl
-      (λ w′ p. looked (a + 1) l v w′ (omega arith) (same-more w′ p) (p .ready) (along-more a x v m) (each-more Clear w w′ a x v p b))
+      (λ L os p. holds-more w a x v L (looks j (a + 1) l v) os (looking j (a + 1) l v) p
+      (looked (a + 1) l v (after-all w L) (omega arith) (same-more L os p) (p .ready) (along-more a x v m) (each-more Clear w a x v L os p b)))
     where
-      first : World
-      first = sendOf (j .part) w Scan (cycle 0 (j .wp) (Read a))
-
       room : a < r .cells
       room = along-here a x v m .room
 
-      onward : Read-on j image R w a first
+      onward : Read-on j image R w a (after-all w (scanRead j a ∷ []))
       onward = reads-on j image R w a g room
 
-      same-more : (w′ : World) → Put w a x w′ → SameAs l w′ (a + 1) (length l)
-      same-more w′ p = λ i h.
+      same-more : (L : List Sent) (os : List Operation) → Put w a x L os → SameAs l (after-all w L) (a + 1) (length l)
+      same-more L os p = λ i h.
           let z : a + suc i ≡ a + 1 + i = omega arith in
           (rw z at (s (suc i) (omega arith))) ∙ sym (p .others (a + 1 + i) (λ q. omega arith))
 
       here : o ≡ at w a
       here = let z : a + 0 ≡ a = omega arith in rw z at (s 0 (omega arith))
 
-      by : (t : Bool) → eqb (valueOf (j .row .width) o) x ≡ t → ((w′ : World) → Put w a x w′ → Holds w′ (a + 1) v (playOf (j .part) w′ (looks j (a + 1) l v)))
-          → Holds w a (x ∷ v) (playOf (j .part) first (pick t [] (operated j 0 a x) ++ looks j (a + 1) l v))
-      by true t ih =
-          let p = read-put a x w room g (ap value (sym here) ∙ rw (R .row) at (eqb-true (valueOf (j .row .width) o) x t)) in
-          holds-more w first (playOf (j .part) first (looks j (a + 1) l v)) a x v p (ih first p)
-      by false t ih =
-          let c : bitAnd (value (at first a)) x ≡ x = rw (onward .cells) (each-here Clear w a x v b) in
-          let w′ = playOf (j .part) first (operated j 0 a x) in
-          let p = put-after w first w′ a x (onward .cells) (programs-cell a x first (along-here a x v m) (onward .ready) c) in
-          rw (play-append (j .part) first (operated j 0 a x) (looks j (a + 1) l v)) (holds-more w w′ (playOf (j .part) w′ (looks j (a + 1) l v)) a x v p (ih w′ p))
+      by : (t : Bool) → eqb (valueOf (j .row .width) o) x ≡ t
+          → ((L : List Sent) (os : List Operation) → Put w a x L os → Holds w a (x ∷ v) (L ++ looks j (a + 1) l v) (os ++ looking j (a + 1) l v))
+          → Holds w a (x ∷ v) (scanRead j a ∷ (pick t [] (operated j 0 a x) ++ looks j (a + 1) l v)) (pick t [] (programming j a x) ++ looking j (a + 1) l v)
+      by true t more =
+          more (scanRead j a ∷ []) [] (read-put a x w room g (ap value (sym here) ∙ rw (R .row) at (eqb-true (valueOf (j .row .width) o) x t)))
+      by false t more =
+          let c : bitAnd (value (at (after-all w (scanRead j a ∷ [])) a)) x ≡ x = rw (onward .cells) (each-here Clear w a x v b) in
+          more (scanRead j a ∷ operated j 0 a x) (programming j a x)
+          (put-after a x w (operated j 0 a x) (programming j a x) onward (programs-cell a x (after-all w (scanRead j a ∷ [])) (along-here a x v m) (onward .ready) c))
 
   -- ---- the scan changes nothing
-  scanned : (n a : ℕ) (w : World) → a + n ≤ r .cells → Ready j image R w → Ready j image R (playOf (j .part) w (scans j a n)) × (playOf (j .part) w (scans j a n) .cells ≡ w .cells)
+  record Scanned (w : World) (L : List Sent) : Type 0 where
+    ready : Ready j image R (after-all w L)
+    cells : after-all w L .cells ≡ w .cells
+    starts : Starts (j .part) w L []
+
+  scanned : (n a : ℕ) (w : World) → a + n ≤ r .cells → Ready j image R w → Scanned w (scans j a n)
   unfolding scans
-  scanned zero a w t g = (g, refl)
+  scanned zero a w t g = record { ready = g; cells = refl; starts = starts-none (j .part) w }
   scanned (suc n) a w t g =
       let o = reads-on j image R w a g (omega arith) in
-      let k = scanned n (a + 1) (sendOf (j .part) w Scan (cycle 0 (j .wp) (Read a))) (omega arith) (o .ready) in
-      (k .0, k .1 ∙ o .cells)
+      let k = scanned n (a + 1) (after-all w (scanRead j a ∷ [])) (omega arith) (o .ready) in
+      record {
+        ready = k .ready;
+        cells = k .cells ∙ o .cells;
+        starts = starts-append (j .part) w (scanRead j a ∷ []) (scans j (a + 1) n) [] [] (starts-read (j .part) w j a) (k .starts);
+      }
 
   -- ---- the erase of a sector
-  record Erased (w : World) (a : ℕ) (w′ : World) : Type 0 where
-    ready : Ready j image R w′
-    below : (i : ℕ) → i < a → at w′ i ≡ at w i
-    above : (i : ℕ) → a + j .size ≤ i → at w′ i ≡ at w i
-    blank : (i : ℕ) → i < j .size → value (at w′ (a + i)) ≡ blankOf (r .width)
+  record Erased (w : World) (a : ℕ) (L : List Sent) (os : List Operation) : Type 0 where
+    ready : Ready j image R (after-all w L)
+    below : (i : ℕ) → i < a → at (after-all w L) i ≡ at w i
+    above : (i : ℕ) → a + j .size ≤ i → at (after-all w L) i ≡ at w i
+    blank : (i : ℕ) → i < j .size → value (at (after-all w L) (a + i)) ≡ blankOf (r .width)
+    starts : Starts (j .part) w L os
 
-  erased : (a x : ℕ) (w : World) → May a x → a % j .size ≡ 0 → a + j .size ≤ r .cells → Ready j image R w → Erased w a (playOf (j .part) w (operated j 1 a 0))
+  erased : (a x : ℕ) (w : World) → May a x → a % j .size ≡ 0 → a + j .size ≤ r .cells → Ready j image R w → Erased w a (operated j 1 a 0) (operationOf r 1 a 0 ∷ [])
   unfolding idle
   erased a x w m aligned t g =
       let shown = erase-shows (j .part) 1 a 0 (j .p) (j .wp) (w .cells) (w .held .device) (m .erase) (g .whole) (rw (g .rest)) (m .heeds-erase) (λ e. absurd (omega arith)) in
@@ -287,6 +297,7 @@ module _ (j : Job) (image : List ℕ) (R : Right j image) where
             ∙ (List·getD-append (take a (w .cells)) _ 0 i (rw (length-take-le a (w .cells) (omega arith)) h) ∙ getD-take a (w .cells) i 0 h);
         above = λ i h. ap (λ (l : List ℕ). getD l i 0) e ∙ beyond (completed r 1 a 0 (w .cells)) (w .cells) (a + sectorSize (r .width)) i (omega (arith, R .size)) (erase-drop r a z (w .cells) s);
         blank = λ i h. ap (λ (l : List ℕ). value (getD l (a + i) 0)) e ∙ (ap value (erase-at r a z (w .cells) s i (omega (arith, R .size))) ∙ value-blank (r .width));
+        starts = starts-operated j 1 a 0 (omega arith) (R .row) w (m .erase) (g .whole) (rw (g .rest)) (m .heeds-erase);
       }
     where
       beyond : (l k : List ℕ) (n i : ℕ) → n ≤ i → drop n l ≡ drop n k → getD l i 0 ≡ getD k i 0
@@ -316,44 +327,58 @@ module _ (j : Job) (image : List ℕ) (R : Right j image) where
     abbrev rest : Bool → List Sent
     rest t = pick t (operated j 1 a 0 ++ fills j a v) (looks j a l v)
 
-    decided : (t : Bool) (w : World) → rises (r .width) (map value l) v ≡ t → SameAs l w a (j .size) → Ready j image R w → Holds w a v (playOf (j .part) w (rest t))
+    abbrev begins : Bool → List Operation
+    begins t = pick t (operationOf r 1 a 0 ∷ filling j a v) (looking j a l v)
+
+    decided : (t : Bool) (w : World) → rises (r .width) (map value l) v ≡ t → SameAs l w a (j .size) → Ready j image R w → Holds w a v (rest t) (begins t)
     decided true w e s g =
-        let w′ = playOf (j .part) w (operated j 1 a 0) in
+        let L = operated j 1 a 0 in
+        let o = operationOf r 1 a 0 ∷ [] in
         let q = erased a (getD v 0 0) w (let z : a + 0 ≡ a = omega arith in rw z at (m 0 (omega arith))) aligned room g in
-        let h = filled a v w′ (q .ready) m (λ i n. (q .blank i (omega arith), blank-clears i n)) in
-        rw (play-append (j .part) w (operated j 1 a 0) (fills j a v))
-        (record { ready = h .ready; below = λ i n. h .below i n ∙ q .below i n; above = λ i n. h .above i n ∙ q .above i (omega arith); holds = h .holds })
+        let h = filled a v (after-all w L) (q .ready) m (λ i n. (q .blank i (omega arith), blank-clears i n)) in
+        let e = play-append (j .part) w L (fills j a v) in
+        record {
+          ready = rw e (h .ready);
+          below = λ i n. rw e (h .below i n ∙ q .below i n);
+          above = λ i n. rw e (h .above i n ∙ q .above i (omega arith));
+          holds = λ i n. rw e (h .holds i n);
+          starts = starts-append (j .part) w L (fills j a v) o (filling j a v) (q .starts) (h .starts);
+        }
     decided false w e s g = looked a l v w (ln ∙ sym lv) (λ i h. s i (omega arith)) g m (clear-cells w s e)
 
-    sector-holds : (w : World) → SameAs l w a (j .size) → Ready j image R w → Holds w a v (playOf (j .part) w (sectorSent j a l v))
-    unfolding sectorSent
+    sector-holds : (w : World) → SameAs l w a (j .size) → Ready j image R w → Holds w a v (sectorSent j a l v) (sectoring j a l v)
+    unfolding sectorSent sectoring
     sector-holds w s g =
         let t = rises (j .row .width) (map (valueOf (j .row .width)) l) v in
+        let L = scans j a (j .size) in
         let k = scanned (j .size) a w room g in
-        let w′ = playOf (j .part) w (scans j a (j .size)) in
-        let h = decided t w′ (rw (R .row)) (λ i n. s i n ∙ sym (ap (λ (l : List ℕ). getD l (a + i) 0) (k .1))) (k .0) in
-        rw (play-append (j .part) w (scans j a (j .size)) (rest t))
-        (record {
-          ready = h .ready;
-          below = λ i n. h .below i n ∙ ap (λ (l : List ℕ). getD l i 0) (k .1);
-          above = λ i n. h .above i n ∙ ap (λ (l : List ℕ). getD l i 0) (k .1);
-          holds = h .holds;
-        })
+        let h = decided t (after-all w L) (rw (R .row)) (λ i n. s i n ∙ sym (ap (λ (l : List ℕ). getD l (a + i) 0) (k .cells))) (k .ready) in
+        let e = play-append (j .part) w L (rest t) in
+        record {
+          ready = rw e (h .ready);
+          below = λ i n. rw e (h .below i n ∙ ap (λ (l : List ℕ). getD l i 0) (k .cells));
+          above = λ i n. rw e (h .above i n ∙ ap (λ (l : List ℕ). getD l i 0) (k .cells));
+          holds = λ i n. rw e (h .holds i n);
+          starts = starts-append (j .part) w L (rest t) [] (begins t) (k .starts) (h .starts);
+        }
 
   -- ---- n sectors
   -- two stretches in a row
-  holds-both : (w w′ w″ : World) (a n : ℕ) (v : List ℕ) → n ≤ length v → Holds w a (take n v) w′ → Holds w′ (a + n) (drop n v) w″ → Holds w a v w″
-  holds-both w w′ w″ a n v le h k =
+  holds-both : (w : World) (a n : ℕ) (v : List ℕ) (L M : List Sent) (os ps : List Operation) → n ≤ length v
+      → Holds w a (take n v) L os → Holds (after-all w L) (a + n) (drop n v) M ps → Holds w a v (L ++ M) (os ++ ps)
+  holds-both w a n v L M os ps le h k =
       let lt : length (take n v) ≡ n = length-take-le n v le in
       let ld : length (drop n v) ≡ length v - n = length-drop n v in
+      let e = play-append (j .part) w L M in
       record {
-        ready = k .ready;
-        below = λ i b. k .below i (omega arith) ∙ h .below i b;
-        above = λ i b. k .above i (omega arith) ∙ h .above i (omega arith);
-        holds = λ i b. by i b (ltb i n) refl;
+        ready = rw e (k .ready);
+        below = λ i b. rw e (k .below i (omega arith) ∙ h .below i b);
+        above = λ i b. rw e (k .above i (omega arith) ∙ h .above i (omega arith));
+        holds = λ i b. rw e (by i b (ltb i n) refl);
+        starts = starts-append (j .part) w L M os ps (h .starts) (k .starts);
       }
     where
-      by : (i : ℕ) → i < length v → (t : Bool) → ltb i n ≡ t → value (at w″ (a + i)) ≡ getD v i 0
+      by : (i : ℕ) → i < length v → (t : Bool) → ltb i n ≡ t → value (at (after-all (after-all w L) M) (a + i)) ≡ getD v i 0
       by i b true t =
           let u = ltb-true i n t in
           ap value (k .below (a + i) (omega arith)) ∙ (h .holds i (rw (length-take-le n v le) u) ∙ getD-take n v i 0 u)
@@ -367,8 +392,8 @@ module _ (j : Job) (image : List ℕ) (R : Right j image) where
   Fit v = (i : ℕ) → i < length v → fitsIn (r .width) (getD v i 0) ≡ true
 
   sectors-hold : (n a : ℕ) (l v : List ℕ) (w : World) → 0 < j .size → a % j .size ≡ 0 → n * j .size ≤ length l → length v ≡ n * j .size → a + length v ≤ r .cells
-      → Fit v → Along a v → SameAs l w a (n * j .size) → Ready j image R w → Holds w a v (playOf (j .part) w (sectorsSent j a n l v))
-  unfolding sectorsSent
+      → Fit v → Along a v → SameAs l w a (n * j .size) → Ready j image R w → Holds w a v (sectorsSent j a n l v) (sectoringAll j a n l v)
+  unfolding sectorsSent sectoringAll
   sectors-hold zero a l [] w some z ln lv room f m s g = holds-none w a g
   sectors-hold zero a l (x ∷ v) w some z ln lv room f m s g = absurd (omega (arith, zero-mul (j .size)))
   sectors-hold (suc n) a l v w some z ln lv room f m s g =
@@ -379,21 +404,20 @@ module _ (j : Job) (image : List ℕ) (R : Right j image) where
       let ld : length (drop S v) ≡ length v - S = length-drop S v in
       let lk : length (take S l) ≡ S = length-take-le S l (omega arith) in
       let le′ : length (drop S l) ≡ length l - S = length-drop S l in
-      let w′ = playOf (j .part) w (sectorSent j a (take S l) (take S v)) in
+      let L = sectorSent j a (take S l) (take S v) in
       let first = sector-holds a (take S l) (take S v) z lk lt some
       (λ i h. rw (getD-take S v i 0 (omega arith)) (f i (omega arith)))
       (λ i h. rw (getD-take S v i 0 (omega arith)) (m i (omega arith))) (omega arith) w
       (λ i h. getD-take S l i 0 h ∙ s i (omega arith)) g in
-      let next = sectors-hold n (a + S) (drop S l) (drop S v) w′ some (add-mod-right a S ∙ z) (omega arith) (omega arith) (omega arith)
+      let next = sectors-hold n (a + S) (drop S l) (drop S v) (after-all w L) some (add-mod-right a S ∙ z) (omega arith) (omega arith) (omega arith)
       (λ i h. rw (getD-drop S v i 0) (f (S + i) (omega arith)))
       (λ i h. let y : a + S + i ≡ a + (S + i) = omega arith in rw (y, getD-drop S v i 0) (m (S + i) (omega arith)))
       (λ i h. let y : a + S + i ≡ a + (S + i) = omega arith in getD-drop S l i 0 ∙ (s (S + i) (omega arith) ∙ rw y (sym (first .above (a + (S + i)) (omega arith)))))
       (first .ready) in
-      rw (play-append (j .part) w (sectorSent j a (take S l) (take S v)) (sectorsSent j (a + S) n (drop S l) (drop S v)))
-      (holds-both w w′ (playOf (j .part) w′ (sectorsSent j (a + S) n (drop S l) (drop S v))) a S v le first next)
+      holds-both w a S v L (sectorsSent j (a + S) n (drop S l) (drop S v)) (sectoring j a (take S l) (take S v)) (sectoringAll j (a + S) n (drop S l) (drop S v)) le first next
 
   -- ---- the job: after its cycles the range holds the image, no other cell has changed, and the chip is at rest
-  pub image-held : (cells : List ℕ) → length cells ≡ r .cells → 0 < j .size → Holds (world cells noneSent) (j .first) image (playOf (j .part) (world cells noneSent) (sentOf j image cells))
+  pub image-held : (cells : List ℕ) → length cells ≡ r .cells → 0 < j .size → Holds (world cells noneSent) (j .first) image (sentOf j image cells) (operationsOf j image cells)
   image-held cells whole some =
       let e : j .count / j .size * j .size ≡ j .count = omega (arith, div-add-mod' (j .count) (j .size), R .whole) in
       let c = R .count in

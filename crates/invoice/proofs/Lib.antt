@@ -1,2 +1,7 @@
+pub mod Listed
+pub mod Starts
+pub mod Bits
 pub mod Image
+pub mod Least
 pub mod Billed
+pub mod Loads

@@ -1,24 +1,23 @@
 -- A job that is not refused is a right one.
-use Prim.Native.Nat.{ℕ, zero, suc, _+_, _%_, _≤_, _<_}
-use mathlib.Core.Path.{_≡_, refl, sym, ap, _∙_}
+use Prim.Native.Nat.{ℕ, suc, _+_, _%_, _≤_, _<_}
+use mathlib.Core.Path.{_≡_, refl, sym}
 use mathlib.Core.Bool.{Bool, true, false}
 use mathlib.Core.List.{List}
 use native.Mathlib.Omega.{arith}
 use borrow.Author.Tests.{ltb-true, ltb-false, leb-true, eqb-true, eqb-false, lt-ltb, ne-eqb}
-use lib.Dec.{eqb, ltb, leb}
+use lib.Dec.{eqb, ltb}
 use lib.ListN.{length}
 use Rattle.parts.specs.Pick.{pick}
 use Rattle.parts.specs.Width.{sectorSize}
-use Rattle.parts.specs.Table.{rowOf, partRefusal}
+use Rattle.parts.specs.Table.{rowOf}
 use Rattle.parts.specs.Span.{holdsb, protectedOf}
 use Rattle.parts.specs.declared.span.Span.{Span}
 use Rattle.parts.specs.declared.table.Row.{Row}
 use Rattle.parts.proofs.Every.{apart, split}
-use Rattle.parts.proofs.Ranges.{holds-bounds, sector-some}
+use Rattle.parts.proofs.Ranges.{holds-bounds}
 use Rattle.chip.specs.Sequence.{ignored}
 use Rattle.chip.proofs.Accepted.{zero-left}
-use Rattle.job.specs.declared.loader.Job.{Job}
-use Rattle.job.specs.Refusal.{fitAll, meets, protectionRefusal, rangeRefusal, jobRefusal}
+use Rattle.job.specs.Refusal.{meets, protectionRefusal, rangeRefusal, jobRefusal}
 use Rattle.job.specs.Bill.{jobOf}
 use Rattle.job.proofs.Right.{Right}
 

@@ -1,35 +1,33 @@
 -- What the two calls need of a job that is not refused, and what they hand back.
-use Prim.Native.Nat.{ℕ, _+_, _*_, _/_, _≤_, _<_}
+use Prim.Native.Nat.{ℕ, _+_, _*_, _/_, _≤_}
 use mathlib.Core.Path.{_≡_, refl, sym, ap, ap₂, _∙_}
-use mathlib.Core.Bool.{Bool, true, false}
+use mathlib.Core.Bool.{Bool}
 use mathlib.Core.List.{List}
 use native.Mathlib.Nat.{div-le-self, le-refl, mul-le-mul}
 use native.Mathlib.Omega.{arith}
 use borrow.Author.Tests.{ltb-true, ltb-false}
-use lib.Dec.{eqb, ltb}
+use lib.Dec.{ltb}
 use lib.ListN.{length, take, drop}
 use lib.Seq.{take-all}
-use Rattle.parts.specs.Pick.{pick}
-use Rattle.parts.specs.Width.{sectorSize}
 use Rattle.parts.specs.Table.{rowOf}
-use Rattle.parts.specs.Time.{timeOf, roundedUp, pollsOf}
-use Rattle.parts.specs.declared.table.Row.{Row}
+use Rattle.parts.specs.Time.{timeOf, pollsOf}
 use Rattle.parts.proofs.Every.{split}
 use Rattle.parts.proofs.Sound.{width-most, cells-most, time-most}
 use Rattle.parts.proofs.Ranges.{sector-some}
 use Rattle.driver.proofs.Ready.{rounded-le}
 use Rattle.job.specs.declared.loader.Job.{Job}
 use Rattle.job.specs.declared.run.Held.{Held}
+use Rattle.job.specs.declared.run.Ended.{Ended}
 use Rattle.job.specs.declared.bill.Bill.{Bill}
 use Rattle.job.specs.declared.bill.Report.{Report}
 use Rattle.job.specs.Kept.{Kept}
 use Rattle.job.specs.Total.{sumOf}
 use Rattle.job.specs.Refusal.{jobRefusal}
-use Rattle.job.specs.Run.{Sent, World, world, noneSent, playOf, runFrom}
+use Rattle.job.specs.Run.{World, world, noneSent, playOf, runFrom, stopFrom, ended}
 use Rattle.job.specs.Sent.{sentOf}
-use Rattle.job.specs.Bill.{Timed, jobOf, fullOf, firstFew, billOf, billed, reported, played, playedAll, Reported, reportOf, Loaded, loadOf}
+use Rattle.job.specs.Bill.{Timed, jobOf, fullOf, firstFew, billOf, billed, reported, played, playedAll, reportOf, loadOf}
 use Rattle.job.proofs.Accepts.{Passed, passed, sector-most}
-use Rattle.job.proofs.Runs.{runs}
+use Rattle.job.proofs.Runs.{runs, never-stops-short}
 use Rattle.job.proofs.Counts.{length-most}
 
 -- ---- a full job's time fits
@@ -57,6 +55,9 @@ pub few-most : (k : ℕ) → firstFew k ≤ 2147483648
 few-most k = split (λ (n : ℕ). n ≤ 2147483648) (ltb 2147483648 k) 2147483648 k (λ _. le-refl 2147483648) (λ l. ltb-false 2147483648 k l)
 
 -- ---- a job that is not refused
+pub none-given : {n m : ℕ} → n ≡ m → n ≤ 0 → m ≡ 0
+none-given e l = omega arith
+
 module _ (part first : ℕ) (image cells : List ℕ) (wp : Bool) (p : ℕ) (z : jobRefusal part (length cells) first image wp p ≡ 0) where
   abbrev j : Job
   j = jobOf part first (length image) wp p
@@ -90,6 +91,10 @@ module _ (part first : ℕ) (image cells : List ℕ) (wp : Bool) (p : ℕ) (z : 
   pub runs-first : (k : ℕ) → runFrom j image cells k ≡ played part cells first image wp p k
   runs-first k = runs j image (ok .right) cells (ok .whole) (sector-some (rowOf part .width)) (sector-most (rowOf part .width)) k
 
+  -- neither 11 nor 12, nor any other number, comes in an accepted job
+  pub never-short : (k : ℕ) → stopFrom j image cells k ≡ 0
+  never-short k = never-stops-short j image (ok .right) cells (ok .whole) (sector-some (rowOf part .width)) (sector-most (rowOf part .width)) k
+
   -- k cycles, or as many as the limit allows
   module _ (few : length (sentOf j image cells) ≤ 2147483648) where
     take-few : (k : ℕ) → take (firstFew k) (sentOf j image cells) ≡ take k (sentOf j image cells)
@@ -100,23 +105,27 @@ module _ (part first : ℕ) (image cells : List ℕ) (wp : Bool) (p : ℕ) (z : 
     pub few-played : (k : ℕ) → runFrom j image cells (firstFew k) ≡ played part cells first image wp p k
     few-played k = runs-first (firstFew k) ∙ ap (playOf part (world cells noneSent)) (take-few k)
 
-    pub reports : (k : ℕ) (h : Held) (cells′ : List ℕ) (r : Report) → h ≡ runFrom j image cells (firstFew k) .held → cells′ ≡ runFrom j image cells (firstFew k) .cells → r ≡ reported h
+    pub reports : (k : ℕ) (e : Ended) (cells′ : List ℕ) (r : Report) → e ≡ ended (runFrom j image cells (firstFew k) .held) (stopFrom j image cells (firstFew k))
+        → cells′ ≡ runFrom j image cells (firstFew k) .cells → r ≡ reported (e .held) (e .answer)
         → (r ≡ reportOf part cells first image wp p k .report) × (cells′ ≡ reportOf part cells first image wp p k .cells)
     unfolding reportOf
-    reports k h cells′ r qh qc qr =
+    reports k e cells′ r qe qc qr =
+        let h : e .held ≡ played part cells first image wp p k .held = ap (λ (e : Ended). e .held) qe ∙ ap (λ (w : World). w .held) (few-played k) in
+        let n : e .answer ≡ 0 = ap (λ (e : Ended). e .answer) qe ∙ never-short (firstFew k) in
         rw z
-        (qr ∙ ap reported (qh ∙ ap (λ (w : World). w .held) (few-played k)), qc ∙ ap (λ (w : World). w .cells) (few-played k))
+        (qr ∙ ap₂ {A = Held} {B = ℕ} {C = Report} reported h n, qc ∙ ap (λ (w : World). w .cells) (few-played k))
 
   -- n cycles are all of them
   module _ (n : ℕ) (few : length (sentOf j image cells) ≤ n) where
     all-played : runFrom j image cells n ≡ playedAll part cells first image wp p
     all-played = runs-first n ∙ ap (playOf part (world cells noneSent)) (take-all n (sentOf j image cells) few)
 
-    pub bills : (h : Held) (cells′ : List ℕ) (sum : ℕ) (b : Bill) → h ≡ runFrom j image cells n .held → cells′ ≡ runFrom j image cells n .cells
-        → sum ≡ sumOf (rowOf part .width) (take (length image) (drop first cells′)) → b ≡ billOf j (h .tally) sum
+    pub bills : (e : Ended) (cells′ : List ℕ) (sum : ℕ) (b : Bill) → e ≡ ended (runFrom j image cells n .held) (stopFrom j image cells n) → cells′ ≡ runFrom j image cells n .cells
+        → sum ≡ sumOf (rowOf part .width) (take (length image) (drop first cells′)) → b ≡ billOf j (e .held .tally) sum (e .answer)
         → (b ≡ loadOf part cells first image wp p .bill) × (cells′ ≡ loadOf part cells first image wp p .cells)
     unfolding loadOf
-    bills h cells′ sum b qh qc qs qb =
-        let w : world cells′ h ≡ playedAll part cells first image wp p = ap₂ {A = List ℕ} {B = Held} {C = World} world qc qh ∙ all-played in
+    bills e cells′ sum b qe qc qs qb =
+        let w : world cells′ (e .held) ≡ playedAll part cells first image wp p = ap₂ {A = List ℕ} {B = Held} {C = World} world qc (ap (λ (e : Ended). e .held) qe) ∙ all-played in
+        let m : e .answer ≡ 0 = ap (λ (e : Ended). e .answer) qe ∙ never-short n in
         rw z
-        (qb ∙ (ap (billOf j (h .tally)) qs ∙ ap (billed part first image wp p) w), ap (λ (w : World). w .cells) w)
+        (qb ∙ (ap₂ {A = ℕ} {B = ℕ} {C = Bill} (billOf j (e .held .tally)) qs m ∙ ap (billed part first image wp p) w), ap (λ (w : World). w .cells) w)

@@ -1,5 +1,5 @@
 -- What the job's operations leave on the cells: a program stores one cell, a sector erase blanks its sector, and no other cell changes.
-use Prim.Native.Nat.{ℕ, zero, suc, _+_, _-_, _*_, _/_, _%_, _≤_, _<_}
+use Prim.Native.Nat.{ℕ, zero, suc, _+_, _*_, _/_, _%_, _≤_, _<_}
 use mathlib.Core.Path.{_≡_, refl, sym, ap, _∙_}
 use mathlib.Core.List.{List, [], _∷_, _++_, map, append-assoc}
 use native.Mathlib.Nat.{div-add-mod', not-suc-le-zero, le-of-suc-le-suc}
@@ -9,9 +9,8 @@ use lib.Seq.{length-take-le, drop-at, drop-drop, getD-append-add}
 use lib.Bits.{bitAnd}
 use Rattle.parts.specs.Width.{blankOf, sectorSize}
 use Rattle.parts.specs.Span.{span, sectorOf}
-use Rattle.parts.specs.declared.span.Span.{Span}
 use Rattle.parts.specs.declared.table.Row.{Row}
-use Rattle.chip.specs.Operation.{cellsOf, over, finished, completeOn}
+use Rattle.chip.specs.Operation.{cellsOf, finished, completeOn}
 use Rattle.chip.proofs.Leaves.{stored}
 use Rattle.driver.specs.Writes.{lastWrite}
 use Rattle.driver.specs.Talk.{operationOf, completed}

@@ -1,6 +1,6 @@
 -- A turn of the run's loop, and its ends; the counts stay within the number of cycles sent.
 use Prim.Native.Nat.{ℕ, zero, suc, zero-le, _+_, _-_, _*_, _≤_, _<_}
-use mathlib.Core.Path.{_≡_, refl, sym, ap, ap₂, _∙_}
+use mathlib.Core.Path.{_≡_, refl, ap, ap₂, _∙_}
 use mathlib.Core.List.{List}
 use native.Mathlib.Nat.{le-refl}
 use native.Mathlib.Omega.{arith}
@@ -18,7 +18,7 @@ use Rattle.job.specs.declared.run.Tally.{Tally}
 use Rattle.job.specs.declared.run.Held.{Held}
 use Rattle.job.specs.Loader.{Turned, turned, firstOf, turnOf}
 use Rattle.job.specs.Kept.{Counts}
-use Rattle.job.specs.Run.{World, world, noneSent, countedOf, sendOf, runOf, runFrom}
+use Rattle.job.specs.Run.{World, world, noneSent, countedOf, sendOf, runOf, runFrom, stopNumber, stopOf, stopFrom, ended}
 
 -- ---- counts
 pub counts-up : (t : Tally) (m n : ℕ) → m ≤ n → Counts t m → Counts t n
@@ -53,31 +53,52 @@ module _ (t : Tally) (n e : ℕ) (w : Counts t n) (short : e ≤ 4294967295) whe
   counted-counts Confirm = more _ up up up up (le-refl _) refl
 
 -- ---- the loop
+-- where a run ends: the world, and the number with which the loader stopped
+pub record End : Type 0 where
+  pub place : World
+  pub number : ℕ
+
+abbrev end : World → ℕ → End
+end w n = record { place = w; number = n }
+
+abbrev pub endOf : Job → List ℕ → ℕ → Turned → World → End
+endOf j image k t w = end (runOf j image k t w) (stopOf j image k t w)
+
+abbrev pub endFrom : Job → List ℕ → List ℕ → ℕ → End
+endFrom j image cells k = end (runFrom j image cells k) (stopFrom j image cells k)
+
+-- what a run hands back where it ends
+abbrev pub Handed : End → List ℕ → Held → ℕ → Type 0
+Handed P cells h n = (ended h n ≡ ended (P .place .held) (P .number)) × (cells ≡ P .place .cells)
+
+handed : (P : End) (cells : List ℕ) (h : Held) (n : ℕ) → end (world cells h) n ≡ P → Handed P cells h n
+handed P cells h n e = (ap (λ (e : End). ended (e .place .held) (e .number)) e, ap (λ (e : End). e .place .cells) e)
+
 module _ (j : Job) (image : List ℕ) where
   -- nothing sent, the first sector's first read
   pub starts : (k : ℕ) (t : Turn) (cells : List ℕ) (h : Held) → h ≡ noneSent → t ≡ firstOf j 0
-      → (h .sent ≤ k) × (Counts (h .tally) (h .sent) × (runOf j image (k - h .sent) (turned (replicate 4096 0) t) (world cells h) ≡ runFrom j image cells k))
+      → (h .sent ≤ k) × (Counts (h .tally) (h .sent) × (endOf j image (k - h .sent) (turned (replicate 4096 0) t) (world cells h) ≡ endFrom j image cells k))
   starts k t cells h e f =
       let z : k - 0 ≡ k = omega arith in
       rw (e, f) (zero-le, (record { erases = zero-le; programs = zero-le; polls = zero-le; scans = zero-le; confirms = zero-le; time = zero-le }, rw z))
 
-  again : (k n : ℕ) (seen seen′ : List ℕ) (t t′ : Turn) (l : Loader) (p : Purpose) (c : Cycle) (cells cells′ : List ℕ) (h h′ : Held) (P : World) → n < k → t ≡ Play l p c
+  again : (k n : ℕ) (seen seen′ : List ℕ) (t t′ : Turn) (l : Loader) (p : Purpose) (c : Cycle) (cells cells′ : List ℕ) (h h′ : Held) (P : End) → n < k → t ≡ Play l p c
       → h′ ≡ sendOf (j .part) (world cells h) p c .held → cells′ ≡ sendOf (j .part) (world cells h) p c .cells
       → t′ ≡ turnOf j image seen l (h′ .reply) .turn → seen′ ≡ turnOf j image seen l (h′ .reply) .seen
-      → runOf j image (k - n) (turned seen t) (world cells h) ≡ P → runOf j image (k - (n + 1)) (turned seen′ t′) (world cells′ h′) ≡ P
+      → endOf j image (k - n) (turned seen t) (world cells h) ≡ P → endOf j image (k - (n + 1)) (turned seen′ t′) (world cells′ h′) ≡ P
   again k n seen seen′ t t′ l p c cells cells′ h h′ P lt e qh qc qt qs r =
       let i : k - n ≡ suc (k - (n + 1)) = omega arith in
       let w : world cells′ h′ ≡ sendOf (j .part) (world cells h) p c = ap₂ {A = List ℕ} {B = Held} {C = World} world qc qh in
       let m : turned seen′ t′ ≡ turnOf j image seen l (h′ .reply) = ap₂ {A = List ℕ} {B = Turn} {C = Turned} turned qs qt in
       let x : turnOf j image seen l (h′ .reply) ≡ turnOf j image seen l (sendOf (j .part) (world cells h) p c .held .reply) = ap (λ (h : Held). turnOf j image seen l (h .reply)) qh in
-      ap₂ {A = Turned} {B = World} {C = World} (runOf j image (k - (n + 1))) (m ∙ x) w ∙ (rw (i, e) at r)
+      ap₂ {A = Turned} {B = World} {C = End} (endOf j image (k - (n + 1))) (m ∙ x) w ∙ (rw (i, e) at r)
 
   -- a turn
-  pub turns : (k : ℕ) (seen seen′ : List ℕ) (t t′ : Turn) (l : Loader) (p : Purpose) (c : Cycle) (cells cells′ : List ℕ) (h h′ : Held) (P : World) → h .sent < k → t ≡ Play l p c
+  pub turns : (k : ℕ) (seen seen′ : List ℕ) (t t′ : Turn) (l : Loader) (p : Purpose) (c : Cycle) (cells cells′ : List ℕ) (h h′ : Held) (P : End) → h .sent < k → t ≡ Play l p c
       → h′ ≡ sendOf (j .part) (world cells h) p c .held → cells′ ≡ sendOf (j .part) (world cells h) p c .cells
       → t′ ≡ turnOf j image seen l (h′ .reply) .turn → seen′ ≡ turnOf j image seen l (h′ .reply) .seen
-      → c .elapsed ≤ 4294967295 → Counts (h .tally) (h .sent) → runOf j image (k - h .sent) (turned seen t) (world cells h) ≡ P
-      → (h′ .sent ≤ k) × (Counts (h′ .tally) (h′ .sent) × (runOf j image (k - h′ .sent) (turned seen′ t′) (world cells′ h′) ≡ P))
+      → c .elapsed ≤ 4294967295 → Counts (h .tally) (h .sent) → endOf j image (k - h .sent) (turned seen t) (world cells h) ≡ P
+      → (h′ .sent ≤ k) × (Counts (h′ .tally) (h′ .sent) × (endOf j image (k - h′ .sent) (turned seen′ t′) (world cells′ h′) ≡ P))
   unfolding sendOf
   turns k seen seen′ t t′ l p c cells cells′ h h′ P lt e qh qc qt qs short w r =
       let s : h′ .sent ≡ h .sent + 1 = ap (λ (h : Held). h .sent) qh in
@@ -86,14 +107,16 @@ module _ (j : Job) (image : List ℕ) where
       let n : Counts (h′ .tally) (h′ .sent) = rw (y, s) (counted-counts (h .tally) (h .sent) (c .elapsed) w short p) in
       (omega arith, (n, rw z (again k (h .sent) seen seen′ t t′ l p c cells cells′ h h′ P lt e qh qc qt qs r)))
 
-  pub stopped : (k n : ℕ) (seen : List ℕ) (t : Turn) (w P : World) → t ≡ Stop n → runOf j image k (turned seen t) w ≡ P → w ≡ P
-  stopped zero n seen t w P e r = r
-  stopped (suc k) n seen t w P e r = rw e at r
+  -- the loader has stopped
+  pub stopped : (k n m : ℕ) (seen : List ℕ) (t : Turn) (cells : List ℕ) (h : Held) (P : End) → t ≡ Stop n → m ≡ stopNumber t → endOf j image k (turned seen t) (world cells h) ≡ P → Handed P cells h m
+  stopped zero n m seen t cells h P e q r = handed P cells h m (ap (end (world cells h)) q ∙ r)
+  stopped (suc k) n m seen t cells h P e q r = handed P cells h m (ap (end (world cells h)) (q ∙ ap stopNumber e) ∙ (rw e at r))
 
-  pub passed : (k n : ℕ) (t : Turned) (w P : World) → k ≤ n → runOf j image (k - n) t w ≡ P → w ≡ P
-  passed k n t w P le r =
+  -- k cycles are sent
+  pub passed : (k n m : ℕ) (seen : List ℕ) (t : Turn) (cells : List ℕ) (h : Held) (P : End) → k ≤ n → m ≡ stopNumber t → endOf j image (k - n) (turned seen t) (world cells h) ≡ P → Handed P cells h m
+  passed k n m seen t cells h P le q r =
       let z : k - n ≡ 0 = omega arith in
-      rw z at r
+      handed P cells h m (ap (end (world cells h)) q ∙ (rw z at r))
 
 -- a cycle more is sent
 pub one-more : (part : ℕ) (w : World) (p : Purpose) (c : Cycle) → sendOf part w p c .held .sent ≡ w .held .sent + 1

@@ -1,36 +1,33 @@
 -- An operation of the job, whole: from a chip at rest the loader sends the cycles of `operated`, and goes on with the operation completed on the cells.
-use Prim.Native.Nat.{ℕ, zero, suc, _+_, _-_, _<_, _≤_}
+use Prim.Native.Nat.{ℕ, zero, suc, _+_, _<_, _≤_}
 use mathlib.Core.Path.{_≡_, refl, sym, ap, _∙_}
-use mathlib.Core.Bool.{Bool, true, false}
-use mathlib.Core.List.{List, [], _∷_, _++_, map}
+use mathlib.Core.Bool.{Bool, false}
+use mathlib.Core.List.{List, [], _∷_, _++_}
 use native.Mathlib.Nat.{le-refl}
 use native.Mathlib.Numerals.{add-one}
 use native.Mathlib.Omega.{arith}
-use borrow.Author.Tests.{eq-eqb, ne-eqb}
-use lib.Dec.{eqb}
-use lib.ListN.{length, replicate, length-append, length-map}
+use borrow.Author.Tests.{ne-eqb}
+use lib.ListN.{length, replicate, length-append}
 use Rattle.parts.specs.Table.{rowOf}
 use Rattle.parts.specs.Time.{pollsOf}
 use Rattle.parts.specs.declared.table.Row.{Row}
-use Rattle.chip.specs.declared.cycle.Action.{Action}
 use Rattle.chip.specs.declared.cycle.Action.the-variants.{Read}
 use Rattle.chip.specs.declared.cycle.Cycle.{Cycle}
 use Rattle.chip.specs.Device.{freshDevice, idle}
 use Rattle.chip.specs.Sequence.{ignored}
 use Rattle.chip.specs.Cycle.{Chip, chip}
-use Rattle.driver.specs.declared.machine.Phase.the-variants.{Writing, Polling, Done}
+use Rattle.driver.specs.declared.machine.Phase.the-variants.{Polling, Done}
 use Rattle.driver.specs.declared.machine.Driver.{Driver}
 use Rattle.driver.specs.declared.machine.Next.{Next}
 use Rattle.driver.specs.declared.machine.Next.the-variants.{Nothing, Send}
 use Rattle.driver.specs.declared.machine.Started.{Started}
 use Rattle.driver.specs.declared.machine.Step.{Step}
 use Rattle.driver.specs.Refusals.{startRefusal}
-use Rattle.driver.specs.Writes.{lastWrite, writesOf, writeCount}
+use Rattle.driver.specs.Writes.{writesOf, writeCount}
 use Rattle.driver.specs.Machine.{addressOf, valueWanted, begun, startOf, stepOf, moved, ended}
 use Rattle.driver.specs.Talk.{Told, told, talk, writeCycles, completed, shownAfter}
 use Rattle.driver.proofs.Asked as Asked
 use Rattle.driver.proofs.Begins.{started, start-range}
-use Rattle.driver.proofs.Talks.{write-length}
 use Rattle.driver.proofs.Theorems.{succeeds}
 use Rattle.job.specs.declared.loader.Job.{Job}
 use Rattle.job.specs.declared.loader.Stage.{Stage}

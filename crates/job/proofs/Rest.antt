@@ -1,14 +1,13 @@
 -- "The rest": from a turn on, the cycles that the loader has yet to send are a list. An operation's are those of `operated`.
 use Prim.Native.Nat.{ℕ, zero, suc, _+_, _<_, _≤_}
 use mathlib.Core.Path.{_≡_, refl, sym, ap, _∙_}
-use mathlib.Core.Bool.{Bool, true, false}
+use mathlib.Core.Bool.{Bool}
 use mathlib.Core.List.{List, [], _∷_, _++_}
-use native.Mathlib.Omega.{arith}
 use borrow.Author.Tests.{eq-eqb}
-use lib.ListN.{length, take}
+use lib.ListN.{take}
 use Rattle.chip.specs.declared.cycle.Action.{Action}
 use Rattle.chip.specs.declared.cycle.Cycle.{Cycle}
-use Rattle.chip.specs.Cycle.{Chip, chip, Outcome, cycleOf}
+use Rattle.chip.specs.Cycle.{Chip, chip}
 use Rattle.chip.specs.Trace.{after}
 use Rattle.driver.specs.declared.machine.Driver.{Driver}
 use Rattle.driver.specs.declared.machine.Next.{Next}
@@ -19,13 +18,11 @@ use Rattle.driver.specs.Machine.{stepOf}
 use Rattle.driver.specs.Talk.{Told, told, led, shows, talk}
 use Rattle.job.specs.declared.loader.Job.{Job}
 use Rattle.job.specs.declared.loader.Stage.{Stage}
-use Rattle.job.specs.declared.loader.Stage.the-variants.{Erasing, Filling, Burning}
 use Rattle.job.specs.declared.loader.Loader.{Loader}
 use Rattle.job.specs.declared.loader.Purpose.{Purpose}
-use Rattle.job.specs.declared.loader.Turn.{Turn}
 use Rattle.job.specs.declared.loader.Turn.the-variants.{Play, Stop}
-use Rattle.job.specs.Loader.{Turned, turned, loader, cycle, purposeOf, goesOn, seenOf, stageOf, drivenOf, afterwards, within, turnOf}
-use Rattle.job.specs.Run.{Sent, sent, World, world, sendOf, playOf, runOf}
+use Rattle.job.specs.Loader.{Turned, turned, loader, cycle, purposeOf, seenOf, stageOf, drivenOf, afterwards, turnOf}
+use Rattle.job.specs.Run.{Sent, sent, World, sendOf, playOf, runOf, stopOf}
 use Rattle.job.proofs.Within.{sector-in}
 use Rattle.job.proofs.Tags.{tagOf, tagged, Named, tag-step, silent}
 
@@ -49,30 +46,32 @@ module _ (part : ℕ) (wp : Bool) (m : ℕ) (t : Step) (h : Chip) where
   talk-goes e a q = rw (q, talk)
 
 module _ (j : Job) (image : List ℕ) where
-  -- from a turn on, the cycles to come are L
+  -- from a turn on, the cycles to come are L, and the loader stops with 0
   unfoldable pub Rest : Turned → World → List Sent → Type 0
-  Rest t w L = (k : ℕ) → runOf j image k t w ≡ playOf (j .part) w (take k L)
+  Rest t w L = (k : ℕ) → (runOf j image k t w ≡ playOf (j .part) w (take k L)) × (stopOf j image k t w ≡ 0)
 
-  pub rest-none : (seen : List ℕ) (n : ℕ) (w : World) → Rest (turned seen (Stop n)) w []
+  pub rest-none : (seen : List ℕ) (w : World) → Rest (turned seen (Stop 0)) w []
   unfolding Rest
-  rest-none seen n w = λ k. by k
+  rest-none seen w = λ k. by k
     where
-      by : (k : ℕ) → runOf j image k (turned seen (Stop n)) w ≡ playOf (j .part) w (take k [])
-      by zero = refl
-      by (suc k) = refl
+      by : (k : ℕ) → (runOf j image k (turned seen (Stop 0)) w ≡ playOf (j .part) w (take k [])) × (stopOf j image k (turned seen (Stop 0)) w ≡ 0)
+      by zero = (refl, refl)
+      by (suc k) = (refl, refl)
 
   pub rest-more : (seen : List ℕ) (l : Loader) (p : Purpose) (c : Cycle) (w : World) (L : List Sent)
       → Rest (turnOf j image seen l (sendOf (j .part) w p c .held .reply)) (sendOf (j .part) w p c) L → Rest (turned seen (Play l p c)) w (sent p c ∷ L)
   unfolding Rest
   rest-more seen l p c w L h = λ k. by k
     where
-      by : (k : ℕ) → runOf j image k (turned seen (Play l p c)) w ≡ playOf (j .part) w (take k (sent p c ∷ L))
-      by zero = refl
+      by : (k : ℕ) → (runOf j image k (turned seen (Play l p c)) w ≡ playOf (j .part) w (take k (sent p c ∷ L))) × (stopOf j image k (turned seen (Play l p c)) w ≡ 0)
+      by zero = (refl, refl)
       by (suc k) = h k
 
   pub rest-is : (t t′ : Turned) (w : World) (L L′ : List Sent) → t ≡ t′ → L ≡ L′ → Rest t′ w L′ → Rest t w L
   unfolding Rest
-  rest-is t t′ w L L′ e f h = λ k. ap (λ (t : Turned). runOf j image k t w) e ∙ (h k ∙ ap (λ (L : List Sent). playOf (j .part) w (take k L)) (sym f))
+  rest-is t t′ w L L′ e f h = λ k.
+      let g = h k in
+      (ap (λ (t : Turned). runOf j image k t w) e ∙ (g .0 ∙ ap (λ (L : List Sent). playOf (j .part) w (take k L)) (sym f)), ap (λ (t : Turned). stopOf j image k t w) e ∙ g .1)
 
   -- ---- an operation that a stage drives, at a cell of a sector
   module _ (s : Stage) (drives : (seen : List ℕ) (b i : ℕ) (d : Driver) (r : ℕ) → (stageOf j image seen s b i d r ≡ drivenOf j image s b i (stepOf d r)) × (seenOf s seen i r ≡ seen))

@@ -1,24 +1,31 @@
--- The run of a right job is the playing of its one list.
-use Prim.Native.Nat.{ℕ, _+_, _*_, _/_, _%_, _≤_, _<_}
-use mathlib.Core.Path.{_≡_, refl, sym, ap, _∙_}
+-- The run of a right job is the playing of its one list, and no driver in it ends with anything but 0.
+use Prim.Native.Nat.{ℕ, _+_, _*_, _/_, _≤_, _<_}
+use mathlib.Core.Path.{_≡_, refl}
 use mathlib.Core.List.{List}
 use native.Mathlib.Nat.{div-add-mod', zero-mod}
 use native.Mathlib.Omega.{arith}
-use lib.ListN.{length, take, drop, replicate, length-replicate}
+use lib.ListN.{length, take, replicate, length-replicate}
 use Rattle.parts.specs.Table.{rowOf}
 use Rattle.job.specs.declared.loader.Job.{Job}
-use Rattle.job.specs.Loader.{turned, firstOf}
-use Rattle.job.specs.Run.{Sent, World, world, noneSent, playOf, runFrom}
-use Rattle.job.specs.Sent.{sectorsSent, sentOf}
+use Rattle.job.specs.Run.{world, noneSent, playOf, runFrom, stopFrom}
+use Rattle.job.specs.Sent.{sentOf}
 use Rattle.job.proofs.Right.{Right}
 use Rattle.job.proofs.Rest.{Rest}
 use Rattle.job.proofs.Sectors.{sectors}
 
-pub runs : (j : Job) (image : List ℕ) → Right j image → (cells : List ℕ) → length cells ≡ rowOf (j .part) .cells → 0 < j .size → j .size ≤ 4096
-    → (k : ℕ) → runFrom j image cells k ≡ playOf (j .part) (world cells noneSent) (take k (sentOf j image cells))
-unfolding Rest
-runs j image R cells whole some most k =
-    let z : j .first + 0 ≡ j .first = omega arith in
-    let e : 0 + j .count / j .size * j .size ≡ j .count = omega (arith, div-add-mod' (j .count) (j .size), R .whole) in
-    rw z at
-    (sectors j image R some most (j .count / j .size) 0 (replicate 4096 0) (world cells noneSent) e (zero-mod (j .size)) (length-replicate {A = ℕ} 4096 0) (record { rest = refl; whole = whole }) k)
+module _ (j : Job) (image : List ℕ) (R : Right j image) (cells : List ℕ) (whole : length cells ≡ rowOf (j .part) .cells) (some : 0 < j .size) (most : j .size ≤ 4096) (k : ℕ) where
+  both : (runFrom j image cells k ≡ playOf (j .part) (world cells noneSent) (take k (sentOf j image cells))) × (stopFrom j image cells k ≡ 0)
+  unfolding Rest
+  both =
+      let z : j .first + 0 ≡ j .first = omega arith in
+      let e : 0 + j .count / j .size * j .size ≡ j .count = omega (arith, div-add-mod' (j .count) (j .size), R .whole) in
+      rw z at
+      (sectors j image R some most (j .count / j .size) 0 (replicate 4096 0) (world cells noneSent) e (zero-mod (j .size)) (length-replicate {A = ℕ} 4096 0) (record { rest = refl; whole = whole }) k)
+
+  -- k cycles run are the first k of the one list played
+  pub runs : runFrom j image cells k ≡ playOf (j .part) (world cells noneSent) (take k (sentOf j image cells))
+  runs = both .0
+
+  -- neither 11 nor 12, nor any other number, comes: the loader goes on, or has stopped with 0
+  pub never-stops-short : stopFrom j image cells k ≡ 0
+  never-stops-short = both .1

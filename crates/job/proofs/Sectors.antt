@@ -1,5 +1,5 @@
 -- The loader's cycles, sector by sector, are those of the one list.
-use Prim.Native.Nat.{ℕ, zero, suc, _+_, _-_, _*_, _/_, _%_, _≤_, _<_}
+use Prim.Native.Nat.{ℕ, zero, suc, _+_, _-_, _*_, _%_, _≤_, _<_}
 use mathlib.Core.Path.{_≡_, refl, sym, ap, ap₂, _∙_}
 use mathlib.Core.Bool.{Bool, true, false}
 use mathlib.Core.List.{List, [], _∷_, _++_, map, append-assoc}
@@ -7,7 +7,7 @@ use native.Mathlib.Nat.{le-refl, not-suc-le-zero, le-of-suc-le-suc, add-mod, add
 use native.Mathlib.Numerals.{add-one}
 use native.Mathlib.Omega.{arith}
 use borrow.Author.Tests.{lt-ltb, le-ltb, eq-eqb, ne-eqb, eqb-true, eqb-false}
-use lib.Dec.{eqb, ltb}
+use lib.Dec.{eqb}
 use lib.ListN.{length, getD, set, take, drop, length-set, length-drop, length-map}
 use lib.Seq.{take-suc, take-suc-set, getD-take, getD-drop, getD-set-other, drop-set-lt, drop-cons, drop-drop}
 use lib.Bits.{bitAnd, and-comm, and-mask}
@@ -16,7 +16,6 @@ use Rattle.parts.specs.Width.{valueOf, blankOf, fitsIn, sectorSize}
 use Rattle.parts.proofs.Values.{value-same, value-blank, fits-lt}
 use Rattle.parts.specs.Table.{rowOf}
 use Rattle.parts.specs.declared.table.Row.{Row}
-use Rattle.parts.proofs.Every.{split}
 use Rattle.chip.specs.declared.cycle.Action.the-variants.{Read}
 use Rattle.chip.specs.declared.cycle.Cycle.{Cycle}
 use Rattle.chip.specs.Device.{freshDevice, inRange, idle}
@@ -32,9 +31,9 @@ use Rattle.job.specs.declared.loader.Stage.the-variants.{Scanning, Erasi
 use Rattle.job.specs.declared.loader.Purpose.the-variants.{Scan}
 use Rattle.job.specs.declared.loader.Turn.the-variants.{Play, Stop}
 use Rattle.job.specs.Search.{rises, leadingOf}
-use Rattle.job.specs.Loader.{turned, loader, nobody, cycle, placeOf, readsCell, firstOf, lookOf, beginOf, nextMark, fillOf, burnOf, scannedOf, decideOf, afterwards, seenOf, stageOf, drivenOf, within, turnOf}
-use Rattle.job.specs.Run.{Sent, sent, World, sendOf}
-use Rattle.job.specs.Sent.{operated, scanRead, scans, fills, looks, sectorSent, sectorsSent, sentOf}
+use Rattle.job.specs.Loader.{turned, loader, nobody, cycle, placeOf, readsCell, firstOf, lookOf, beginOf, nextMark, fillOf, burnOf, scannedOf, decideOf, afterwards, seenOf, stageOf, drivenOf, turnOf}
+use Rattle.job.specs.Run.{Sent, World, sendOf}
+use Rattle.job.specs.Sent.{operated, scanRead, scans, fills, looks, sectorSent, sectorsSent}
 use Rattle.job.proofs.Within.{sector-in}
 use Rattle.job.proofs.Right.{Right, program-starts, erase-starts, fit-at}
 use Rattle.job.proofs.Turns.{part-length}
@@ -412,7 +411,7 @@ module _ (j : Job) (image : List ℕ) (R : Right j image) where
         → Rest j image (turned seen (firstOf j base)) w (sectorsSent j (j .first + base) n (drop (j .first + base) (w .cells)) (drop base image))
     unfolding firstOf sectorsSent
     sectors zero base seen w e m l g =
-        rest-is j image _ (turned seen (Stop 0)) w _ [] (ap (λ (b : Bool). turned seen (pick b (readsCell j Scanning base 0) (Stop 0))) (le-ltb base (j .count) (omega (arith, zero-mul (j .size))))) refl (rest-none j image seen 0 w)
+        rest-is j image _ (turned seen (Stop 0)) w _ [] (ap (λ (b : Bool). turned seen (pick b (readsCell j Scanning base 0) (Stop 0))) (le-ltb base (j .count) (omega (arith, zero-mul (j .size))))) refl (rest-none j image seen w)
     sectors (suc n) base seen w e m l g =
         let i : base + j .size ≤ j .count = omega (arith, suc-mul n (j .size)) in
         let x : base + j .size + n * j .size ≡ j .count = omega (arith, suc-mul n (j .size)) in

@@ -1,30 +1,27 @@
 -- Why each cycle of an operation is sent: the loader's purposes along a driver's talk are those of the one list.
-use Prim.Native.Nat.{ℕ, zero, suc, _+_, _<_, _≤_}
+use Prim.Native.Nat.{ℕ, _+_, _<_}
 use mathlib.Core.Path.{_≡_, refl, sym, ap, _∙_}
 use mathlib.Core.Bool.{Bool, true, false}
-use mathlib.Core.List.{List, [], _∷_, _++_}
+use mathlib.Core.List.{List, [], _∷_}
 use native.Mathlib.Omega.{arith}
-use borrow.Author.Tests.{lt-ltb, le-ltb, ne-eqb}
+use borrow.Author.Tests.{lt-ltb, ne-eqb}
 use lib.Dec.{eqb, ltb}
-use lib.ListN.{replicate}
 use Rattle.parts.specs.Pick.{pick}
 use Rattle.parts.specs.Table.{rowOf}
-use Rattle.parts.proofs.Every.{split}
 use Rattle.chip.specs.declared.cycle.Action.{Action}
 use Rattle.chip.specs.declared.cycle.Action.the-variants.{Read, Write, Idle, Cut}
 use Rattle.chip.specs.declared.cycle.Cycle.{Cycle}
 use Rattle.driver.specs.declared.machine.Phase.{Phase}
-use Rattle.driver.specs.declared.machine.Phase.the-variants.{Writing, Polling, Confirming, Done, GaveUp, Differs}
+use Rattle.driver.specs.declared.machine.Phase.the-variants.{Writing, Polling, Confirming}
 use Rattle.driver.specs.declared.machine.Driver.{Driver}
-use Rattle.driver.specs.declared.machine.Next.{Next}
 use Rattle.driver.specs.declared.machine.Next.the-variants.{Nothing, Send}
 use Rattle.driver.specs.declared.machine.Step.{Step}
 use Rattle.driver.specs.Writes.{writeCount}
 use Rattle.driver.specs.Machine.{inRange, moved, addressOf, afterWrite, writingOf, phaseOf, stepOf}
 use Rattle.driver.proofs.Steps.{Way, refused, writes, wrote, waits, matched, ends, way, goes, keeps}
 use Rattle.job.specs.declared.loader.Purpose.{Purpose}
-use Rattle.job.specs.declared.loader.Purpose.the-variants.{Scan, Lead, Begin, Poll, Confirm}
-use Rattle.job.specs.Loader.{polling, purposeOf}
+use Rattle.job.specs.declared.loader.Purpose.the-variants.{Lead, Begin, Poll, Confirm}
+use Rattle.job.specs.Loader.{purposeOf}
 use Rattle.job.specs.Run.{Sent, sent}
 
 -- the purpose of the i-th cycle of an operation with w writes: a read polls where time has passed since the last cycle

@@ -1,5 +1,5 @@
 -- A turn of each loop over lists: the search for a rising bit, the values passed over, those that fit, and the sum.
-use mathlib.Core.Path.{_≡_, refl, sym, ap, _∙_}
+use mathlib.Core.Path.{_≡_, refl, sym, _∙_}
 use mathlib.Core.Bool.{Bool, true, false}
 use mathlib.Core.List.{List, [], _∷_}
 use Prim.Native.Nat.{ℕ, zero, suc, zero-le, _+_, _-_, _/_, _%_, _<_, _≤_}

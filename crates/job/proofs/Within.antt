@@ -1,5 +1,5 @@
 -- A loader within its job: its sector lies in the image, its cell in the sector.
-use Prim.Native.Nat.{ℕ, _+_, _≤_, _<_}
+use Prim.Native.Nat.{_+_, _≤_, _<_}
 use mathlib.Core.Path.{_≡_}
 use mathlib.Core.Bool.{true}
 use borrow.Author.Tests.{leb-true, ltb-true, le-leb, lt-ltb}

@@ -28,9 +28,9 @@ jobOf part first count wp p =
 unfoldable pub fullOf : Job → ℕ
 fullOf j = (j .count / j .size * pollsOf (j .row) 1 (j .p) + j .count * pollsOf (j .row) 0 (j .p)) * j .p
 
--- spent is the µs of the cycles sent; saved what is left of the full job's time
-abbrev pub billOf : Job → Tally → ℕ → Bill
-billOf j t sum =
+-- spent is the µs of the cycles sent; saved what is left of the full job's time; last the number that the loader stopped with
+abbrev pub billOf : Job → Tally → ℕ → ℕ → Bill
+billOf j t sum n =
     record {
       saved = fullOf j - t .time;
       spent = t .time;
@@ -40,17 +40,17 @@ billOf j t sum =
       scans = t .scans;
       confirms = t .confirms;
       sum = sum;
-      answer = 0;
+      answer = n;
     }
 
 abbrev pub refusedBill : ℕ → Bill
 refusedBill n = record { saved = 0; spent = 0; erases = 0; programs = 0; polls = 0; scans = 0; confirms = 0; sum = 0; answer = n }
 
--- ---- the report of a second call
-abbrev pub reported : Held → Report
-reported h =
+-- ---- the report of a second call: what is held, and the number that the loader stopped with
+abbrev pub reported : Held → ℕ → Report
+reported h n =
     record {
-      answer = 0;
+      answer = n;
       sent = h .sent;
       last = h .last;
       reply = h .reply;
@@ -79,17 +79,17 @@ pub record Reported : Type 0 where
 unfoldable pub reportOf : ℕ → List ℕ → ℕ → List ℕ → Bool → ℕ → ℕ → Reported
 reportOf part cells first image wp p k =
     pick (eqb (jobRefusal part (length cells) first image wp p) 0)
-    (record { cells = played part cells first image wp p k .cells; report = reported (played part cells first image wp p k .held) })
+    (record { cells = played part cells first image wp p k .cells; report = reported (played part cells first image wp p k .held) 0 })
     (record { cells = cells; report = refusedReport (jobRefusal part (length cells) first image wp p) })
 
 pub record Loaded : Type 0 where
   pub cells : List ℕ
   pub bill : Bill
 
--- sum: the values of the range afterwards
+-- sum: the values of the range afterwards; the answer is 0
 abbrev pub billed : ℕ → ℕ → List ℕ → Bool → ℕ → World → Bill
 billed part first image wp p w =
-    billOf (jobOf part first (length image) wp p) (w .held .tally) (sumOf (rowOf part .width) (take (length image) (drop first (w .cells))))
+    billOf (jobOf part first (length image) wp p) (w .held .tally) (sumOf (rowOf part .width) (take (length image) (drop first (w .cells)))) 0
 
 unfoldable pub loadOf : ℕ → List ℕ → ℕ → List ℕ → Bool → ℕ → Loaded
 loadOf part cells first image wp p =

@@ -3,7 +3,7 @@ use Prim.Native.Nat.{ℕ, _+_, _-_}
 use mathlib.Core.Bool.{Bool, true, false}
 use mathlib.Core.List.{List}
 use lib.Dec.{eqb, ltb, leb}
-use lib.ListN.{length, getD, set, take, drop}
+use lib.ListN.{getD, set, take, drop}
 use Rattle.parts.specs.Pick.{pick}
 use Rattle.parts.specs.Width.{blankOf}
 use Rattle.chip.specs.declared.cycle.Action.{Action}

@@ -13,10 +13,12 @@ use Rattle.chip.specs.Cycle.{Outcome, cycleOf}
 use Rattle.job.specs.declared.loader.Job.{Job}
 use Rattle.job.specs.declared.loader.Purpose.{Purpose}
 use Rattle.job.specs.declared.loader.Purpose.the-variants.{Scan, Lead, Begin, Poll, Confirm}
+use Rattle.job.specs.declared.loader.Turn.{Turn}
 use Rattle.job.specs.declared.loader.Turn.the-variants.{Play, Stop}
 use Rattle.job.specs.declared.run.Tally.{Tally}
 use Rattle.job.specs.declared.run.Last.{Last}
 use Rattle.job.specs.declared.run.Held.{Held}
+use Rattle.job.specs.declared.run.Ended.{Ended}
 use Rattle.job.specs.Loader.{Turned, turned, firstOf, turnOf}
 
 -- a cycle and why it is sent
@@ -102,6 +104,28 @@ runOf j image (suc k) t w =
       | Play l p c ↦ runOf j image k (turnOf j image (t .seen) l (sendOf (j .part) w p c .held .reply)) (sendOf (j .part) w p c)
     ]
 
+-- the number with which the loader stops at a turn; 0 where it goes on
+abbrev pub stopNumber : Turn → ℕ
+stopNumber (Play l p c) = 0
+stopNumber (Stop n) = n
+
+-- the number with which the loader stops within k cycles, from a turn on; 0 while it goes on
+abbrev pub stopOf : Job → List ℕ → ℕ → Turned → World → ℕ
+stopOf j image zero t w = stopNumber (t .turn)
+stopOf j image (suc k) t w =
+    elim (t .turn) [
+      | Stop n ↦ n
+      | Play l p c ↦ stopOf j image k (turnOf j image (t .seen) l (sendOf (j .part) w p c .held .reply)) (sendOf (j .part) w p c)
+    ]
+
+-- what is held when a run ends, and the number with which the loader stopped
+abbrev pub ended : Held → ℕ → Ended
+ended h n = record { held = h; answer = n }
+
 -- a run from the start: nothing seen, nothing sent, the first sector's first read
 abbrev pub runFrom : Job → List ℕ → List ℕ → ℕ → World
 runFrom j image cells k = runOf j image k (turned (replicate 4096 0) (firstOf j 0)) (world cells noneSent)
+
+-- the number with which the loader stops in such a run
+abbrev pub stopFrom : Job → List ℕ → List ℕ → ℕ → ℕ
+stopFrom j image cells k = stopOf j image k (turned (replicate 4096 0) (firstOf j 0)) (world cells noneSent)

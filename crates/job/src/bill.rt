@@ -1,7 +1,7 @@
 // The job, the second call, and the bill.
 use crate::loader::Job;
 use crate::refusal::job_refusal;
-use crate::run::Held;
+use crate::run::Ended;
 use crate::run::Last;
 use crate::run::Tally;
 use crate::run::no_last;
@@ -90,14 +90,15 @@ fn refused_report(answer: u32) -> Report
     }
 }
 
-// The report of what was sent.
-fn write_report(h: Held) -> Report
-    ensures { λ r. ⌜ r ≡ reported h ⌝ }
+// The report of what was sent, and the number that the loader stopped with.
+fn write_report(e: Ended) -> Report
+    ensures { λ r. ⌜ r ≡ reported (e .held) (e .answer) ⌝ }
 {
+    let h = e.held;
     let last = h.last;
     let t = h.tally;
     Report {
-        answer: 0,
+        answer: e.answer,
         sent: h.sent,
         last,
         reply: h.reply,
@@ -131,10 +132,10 @@ fn left_of(full: u64, spent: u64) -> u64
     full - spent
 }
 
-// The bill of a job's counts and sum.
-fn write_bill(job: Job, t: Tally, sum: u16) -> Bill
+// The bill of a job's counts and sum, and the number that the loader stopped with.
+fn write_bill(job: Job, t: Tally, sum: u16, answer: u32) -> Bill
     requires { ⌜ Timed job ⌝ }
-    ensures { λ r. ⌜ r ≡ billOf job t sum ⌝ }
+    ensures { λ r. ⌜ r ≡ billOf job t sum answer ⌝ }
 {
     Bill {
         saved: left_of(full_time(job), t.time),
@@ -145,7 +146,7 @@ fn write_bill(job: Job, t: Tally, sum: u16) -> Bill
         scans: t.scans,
         confirms: t.confirms,
         sum,
-        answer: 0,
+        answer,
     }
 }
 
@@ -188,10 +189,11 @@ pub fn load(part: u32, cells: &mut [u16], first: u32, image: &[u16], wp: bool, p
         return refused_bill(answer);
     }
     let job = job_of(part, first, image.len() as u32, wp, p);
-    let held = run(&mut *cells, job, image, 2147483648);
+    let ended = run(&mut *cells, job, image, 2147483648);
     let from = first as usize;
     let end = from + image.len();
     let total = sum(&cells[from..end], job.row.width);
+    let held = ended.held;
     let tally = held.tally;
-    write_bill(job, tally, total)
+    write_bill(job, tally, total, ended.answer)
 }

@@ -9,7 +9,7 @@ ghost use mathlib.Core.Path.{_≡_};
 ghost use Prim.Native.Nat.{_<_, _≤_};
 ghost use lib.ListN.{length};
 ghost use Rattle.job.specs.Kept.{Counts, Kept};
-ghost use Rattle.job.specs.Run.{begunOf, countedOf, lastOf, noLast, noneSent, runFrom, sendOf, world};
+ghost use Rattle.job.specs.Run.{begunOf, countedOf, ended, lastOf, noLast, noneSent, runFrom, sendOf, stopFrom, stopNumber, world};
 
 // What the cycles sent so far have counted, and their µs.
 pub struct Tally {
@@ -37,6 +37,12 @@ pub struct Held {
     pub last: Last,
     pub reply: u16,
     pub sent: u64,
+}
+
+// What is held when a run ends, and the number with which the loader stopped: 0 while it goes on.
+pub(crate) struct Ended {
+    pub(crate) held: Held,
+    pub(crate) answer: u32,
 }
 
 // No cycle.
@@ -159,21 +165,33 @@ fn send(part: u32, cells: &mut [u16], h: Held, purpose: Purpose, cycle: Cycle) -
     }
 }
 
+// The number with which the loader stops at a turn; 0 where it goes on.
+fn stop_number(turn: Turn) -> u32
+    ensures { λ r. ⌜ r ≡ stopNumber turn ⌝ }
+{
+    match turn {
+        Turn::Play(_, _, _) => 0,
+        Turn::Stop(n) => n,
+    }
+}
+
 // Sends the loader's cycles, at most k.
-pub(crate) fn run(cells: &mut [u16], job: Job, image: &[u16], k: u64) -> Held
+pub(crate) fn run(cells: &mut [u16], job: Job, image: &[u16], k: u64) -> Ended
     requires { ⌜ Kept job (length (now image)) ⌝ }
     requires { ⌜ k ≤ 2147483648 ⌝ }
-    ensures { λ r. ⌜ (r ≡ runFrom job (now (image .entry)) (now (cells .entry)) k .held) × (now (cells .exit) ≡ runFrom job (now (image .entry)) (now (cells .entry)) k .cells) ⌝ }
+    ensures { λ r. ⌜ (r ≡ ended (runFrom job (now (image .entry)) (now (cells .entry)) k .held) (stopFrom job (now (image .entry)) (now (cells .entry)) k)) × (now (cells .exit) ≡ runFrom job (now (image .entry)) (now (cells .entry)) k .cells) ⌝ }
 {
     let mut seen = [0u16; 4096];
     let mut held = none_sent();
     let mut turn = job.first_turn(0);
     while held.sent < k {
         let Turn::Play(loader, purpose, cycle) = turn else {
-            return held;
+            let answer = stop_number(turn);
+            return Ended { held, answer };
         };
         held = send(job.part, &mut *cells, held, purpose, cycle);
         turn = loader.turn(job, image, &mut seen, held.reply);
     }
-    held
+    let answer = stop_number(turn);
+    Ended { held, answer }
 }

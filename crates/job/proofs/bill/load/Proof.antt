@@ -1,12 +1,12 @@
 -- `job::bill::load` meets its contract.
 use Prim.Native.Nat.{_+_, _-_}
-use mathlib.Core.Path.{_≡_, refl, sym, _∙_}
+use mathlib.Core.Path.{_≡_, refl, sym}
 use native.Mathlib.Omega.{arith}
 use lib.ListN.{length}
 use borrow.Author.Needs.{needs}
 use borrow.Author.Tests.{ne-eqb}
 use Rattle.job.specs.Bill.{loadOf}
-use Rattle.job.proofs.Billing.{image-few, range-fits, kept, timed, few-sent, bills}
+use Rattle.job.proofs.Billing.{none-given, image-few, range-fits, kept, timed, few-sent, bills}
 use Rattle.job.proofs.bill.load.Statement.{statement}
 use Rattle.job.proofs.bill.load.Tie as tie
 
@@ -18,20 +18,31 @@ refused-bill-requires c κs = search needs
 
 returns : tie.Need-returns
 unfolding loadOf
-returns c = let n : c .before .before .job-refusal .result ≡ 0 → ⊥ = λ e. omega arith in simp (sym (c .before .before .job-refusal .ensures), ne-eqb (c .before .before .job-refusal .result) 0 n) (c .refused-bill .ensures, refl)
+returns c =
+    let r = c .before .before .job-refusal in
+    let n : r .result ≡ 0 → ⊥ = λ e. omega arith in
+    simp (sym (r .ensures), ne-eqb (r .result) 0 n) (c .refused-bill .ensures, refl)
 
 cast-job-of : tie.Need-cast-job-of
-cast-job-of c = let z : c .before .job-refusal .result ≡ 0 = omega arith in omega (arith, image-few (c .before .before .before .before .args .part) (c .before .before .before .before .args .first) (c .before .before .before .before .args .image .now) (c .before .before .before .before .args .cells .now) (c .before .before .before .before .args .wp) (c .before .before .before .before .args .p) (sym (c .before .job-refusal .ensures) ∙ z))
+cast-job-of c =
+    let g = c .before .before .before .before .args in
+    let z = none-given (c .before .job-refusal .ensures) (c .if1 .left) in
+    omega (arith, image-few (g .part) (g .first) (g .image .now) (g .cells .now) (g .wp) (g .p) z)
 
 job-of-requires : tie.Need-job-of-requires
 job-of-requires c κs = search needs
 
 run-requires : tie.Need-run-requires
-run-requires c κs = let z : c .before .before .before .job-refusal .result ≡ 0 = omega arith in
-    rw (c .before .job-of .ensures) (kept (c .before .before .before .before .before .before .args .part) (c .before .before .before .before .before .before .args .first) (c .before .before .before .before .before .before .args .image .now) (c .before .before .before .before .before .before .args .cells .now) (c .before .before .before .before .before .before .args .wp) (c .before .before .before .before .before .before .args .p) (sym (c .before .before .before .job-refusal .ensures) ∙ z), search needs)
+run-requires c κs =
+    let g = c .before .before .before .before .before .before .args in
+    let z = none-given (c .before .before .before .job-refusal .ensures) (c .before .before .if1 .left) in
+    rw (c .before .job-of .ensures) (kept (g .part) (g .first) (g .image .now) (g .cells .now) (g .wp) (g .p) z, search needs)
 
 add-end : tie.Need-add-end
-add-end c = let z : c .before .before .before .before .before .before .job-refusal .result ≡ 0 = omega arith in omega (arith, image-few (c .before .before .before .before .before .before .before .before .before .args .part) (c .before .before .before .before .before .before .before .before .before .args .first) (c .before .before .before .before .before .before .before .before .before .args .image .now) (c .before .before .before .before .before .before .before .before .before .args .cells .now) (c .before .before .before .before .before .before .before .before .before .args .wp) (c .before .before .before .before .before .before .before .before .before .args .p) (sym (c .before .before .before .before .before .before .job-refusal .ensures) ∙ z))
+add-end c =
+    let g = c .before .before .before .before .before .before .before .before .before .args in
+    let z = none-given (c .before .before .before .before .before .before .job-refusal .ensures) (c .before .before .before .before .before .if1 .left) in
+    omega (arith, image-few (g .part) (g .first) (g .image .now) (g .cells .now) (g .wp) (g .p) z)
 
 mul-sum : tie.Need-mul-sum
 mul-sum c = search needs
@@ -43,23 +54,33 @@ part-sum-start : tie.Need-part-sum-start
 part-sum-start c = search needs
 
 part-sum-end : tie.Need-part-sum-end
-part-sum-end c = let z : c .before .before .before .before .before .before .before .job-refusal .result ≡ 0 = omega arith in omega (arith, range-fits (c .before .before .before .before .before .before .before .before .before .before .args .part) (c .before .before .before .before .before .before .before .before .before .before .args .first) (c .before .before .before .before .before .before .before .before .before .before .args .image .now) (c .before .before .before .before .before .before .before .before .before .before .args .cells .now) (c .before .before .before .before .before .before .before .before .before .before .args .wp) (c .before .before .before .before .before .before .before .before .before .before .args .p) (sym (c .before .before .before .before .before .before .before .job-refusal .ensures) ∙ z), c .before .before .before .run .kept .0)
+part-sum-end c =
+    let g = c .before .before .before .before .before .before .before .before .before .before .args in
+    let z = none-given (c .before .before .before .before .before .before .before .job-refusal .ensures) (c .before .before .before .before .before .before .if1 .left) in
+    omega (arith, range-fits (g .part) (g .first) (g .image .now) (g .cells .now) (g .wp) (g .p) z, c .before .before .before .run .kept .0)
 
 sum-requires : tie.Need-sum-requires
 sum-requires c κs = search needs
 
 write-bill-requires : tie.Need-write-bill-requires
-write-bill-requires c κs = let z : c .before .before .before .before .before .before .before .before .before .before .job-refusal .result ≡ 0 = omega arith in rw (c .before .before .before .before .before .before .before .before .job-of .ensures) (timed (c .before .before .before .before .before .before .before .before .before .before .before .before .before .args .part) (c .before .before .before .before .before .before .before .before .before .before .before .before .before .args .first) (c .before .before .before .before .before .before .before .before .before .before .before .before .before .args .image .now) (c .before .before .before .before .before .before .before .before .before .before .before .before .before .args .cells .now) (c .before .before .before .before .before .before .before .before .before .before .before .before .before .args .wp) (c .before .before .before .before .before .before .before .before .before .before .before .before .before .args .p) (sym (c .before .before .before .before .before .before .before .before .before .before .job-refusal .ensures) ∙ z))
+write-bill-requires c κs =
+    let g = c .before .before .before .before .before .before .before .before .before .before .before .before .before .before .args in
+    let z = none-given (c .before .before .before .before .before .before .before .before .before .before .before .job-refusal .ensures) (c .before .before .before .before .before .before .before .before .before .before .if1 .left) in
+    rw (c .before .before .before .before .before .before .before .before .before .job-of .ensures) (timed (g .part) (g .first) (g .image .now) (g .cells .now) (g .wp) (g .p) z)
 
 same-length : tie.Need-same-length
 same-length c = search needs
 
 returns-2 : tie.Need-returns-2
-returns-2 c = let g = c .before .before .before .before .before .before .before .before .before .before .before .before .before .before .args in
-    let z : c .before .before .before .before .before .before .before .before .before .before .before .job-refusal .result ≡ 0 = omega arith in
+returns-2 c =
+    let g = c .before .before .before .before .before .before .before .before .before .before .before .before .before .before .before .args in
+    let z = none-given (c .before .before .before .before .before .before .before .before .before .before .before .before .job-refusal .ensures) (c .before .before .before .before .before .before .before .before .before .before .before .if1 .left) in
+    let j = c .before .before .before .before .before .before .before .before .before .before .job-of .ensures in
+    let r = c .before .before .before .before .before .before .before .before .run in
+    let t = c .before .before .before .sum in
     let e : g .first + length (g .image .now) - g .first ≡ length (g .image .now) = omega arith in
-    bills (g .part) (g .first) (g .image .now) (g .cells .now) (g .wp) (g .p) (sym (c .before .before .before .before .before .before .before .before .before .before .before .job-refusal .ensures) ∙ z) 2147483648 (few-sent (g .part) (g .first) (g .image .now) (g .cells .now) (g .wp) (g .p) (sym (c .before .before .before .before .before .before .before .before .before .before .before .job-refusal .ensures) ∙ z)) (c .before .before .before .before .before .before .before .run .result) (c .before .before .before .before .before .before .before .run .last .0) (c .before .before .sum .result) (c .write-bill .result)
-    (rw (c .before .before .before .before .before .before .before .before .before .job-of .ensures) at (c .before .before .before .before .before .before .before .run .ensures .0)) (rw (c .before .before .before .before .before .before .before .before .before .job-of .ensures) at (c .before .before .before .before .before .before .before .run .ensures .1)) (rw (c .before .before .before .before .before .before .before .before .before .job-of .ensures, e) at (c .before .before .sum .ensures)) (rw (c .before .before .before .before .before .before .before .before .before .job-of .ensures) at (c .write-bill .ensures))
+    bills (g .part) (g .first) (g .image .now) (g .cells .now) (g .wp) (g .p) z 2147483648 (few-sent (g .part) (g .first) (g .image .now) (g .cells .now) (g .wp) (g .p) z) (r .result) (r .last .0) (t .result) (c .write-bill .result)
+    (rw j at (r .ensures .0)) (rw j at (r .ensures .1)) (rw (j, e) at (t .ensures)) (rw j at (c .write-bill .ensures))
 
 pub load-spec : {M : Type 1} → statement M
 load-spec =

@@ -1,10 +1,10 @@
 -- `job::bill::load_first` meets its contract.
-use mathlib.Core.Path.{_≡_, refl, sym, _∙_}
+use mathlib.Core.Path.{_≡_, refl, sym}
 use native.Mathlib.Omega.{arith}
 use borrow.Author.Needs.{needs}
 use borrow.Author.Tests.{ne-eqb}
 use Rattle.job.specs.Bill.{reportOf}
-use Rattle.job.proofs.Billing.{image-few, kept, few-most, few-sent, reports}
+use Rattle.job.proofs.Billing.{none-given, image-few, kept, few-most, few-sent, reports}
 use Rattle.job.proofs.bill.load_first.Statement.{statement}
 use Rattle.job.proofs.bill.load_first.Tie as tie
 
@@ -16,10 +16,16 @@ refused-report-requires c κs = search needs
 
 returns : tie.Need-returns
 unfolding reportOf
-returns c = let n : c .before .before .job-refusal .result ≡ 0 → ⊥ = λ e. omega arith in simp (sym (c .before .before .job-refusal .ensures), ne-eqb (c .before .before .job-refusal .result) 0 n) (c .refused-report .ensures, refl)
+returns c =
+    let r = c .before .before .job-refusal in
+    let n : r .result ≡ 0 → ⊥ = λ e. omega arith in
+    simp (sym (r .ensures), ne-eqb (r .result) 0 n) (c .refused-report .ensures, refl)
 
 cast-job-of : tie.Need-cast-job-of
-cast-job-of c = let z : c .before .job-refusal .result ≡ 0 = omega arith in omega (arith, image-few (c .before .before .before .before .args .part) (c .before .before .before .before .args .first) (c .before .before .before .before .args .image .now) (c .before .before .before .before .args .cells .now) (c .before .before .before .before .args .wp) (c .before .before .before .before .args .p) (sym (c .before .job-refusal .ensures) ∙ z))
+cast-job-of c =
+    let g = c .before .before .before .before .args in
+    let z = none-given (c .before .job-refusal .ensures) (c .if1 .left) in
+    omega (arith, image-few (g .part) (g .first) (g .image .now) (g .cells .now) (g .wp) (g .p) z)
 
 job-of-requires : tie.Need-job-of-requires
 job-of-requires c κs = search needs
@@ -28,8 +34,10 @@ first-few-requires : tie.Need-first-few-requires
 first-few-requires c κs = search needs
 
 run-requires : tie.Need-run-requires
-run-requires c κs = let z : c .before .before .before .before .job-refusal .result ≡ 0 = omega arith in
-    rw (c .before .before .job-of .ensures, c .first-few .ensures) (kept (c .before .before .before .before .before .before .before .args .part) (c .before .before .before .before .before .before .before .args .first) (c .before .before .before .before .before .before .before .args .image .now) (c .before .before .before .before .before .before .before .args .cells .now) (c .before .before .before .before .before .before .before .args .wp) (c .before .before .before .before .before .before .before .args .p) (sym (c .before .before .before .before .job-refusal .ensures) ∙ z), few-most (c .before .before .before .before .before .before .before .args .k))
+run-requires c κs =
+    let g = c .before .before .before .before .before .before .before .args in
+    let z = none-given (c .before .before .before .before .job-refusal .ensures) (c .before .before .before .if1 .left) in
+    rw (c .before .before .job-of .ensures, c .first-few .ensures) (kept (g .part) (g .first) (g .image .now) (g .cells .now) (g .wp) (g .p) z, few-most (g .k))
 
 write-report-requires : tie.Need-write-report-requires
 write-report-requires c κs = search needs
@@ -38,9 +46,14 @@ same-length : tie.Need-same-length
 same-length c = search needs
 
 returns-2 : tie.Need-returns-2
-returns-2 c = let z : c .before .before .before .before .before .before .before .before .job-refusal .result ≡ 0 = omega arith in
-    reports (c .before .before .before .before .before .before .before .before .before .before .before .args .part) (c .before .before .before .before .before .before .before .before .before .before .before .args .first) (c .before .before .before .before .before .before .before .before .before .before .before .args .image .now) (c .before .before .before .before .before .before .before .before .before .before .before .args .cells .now) (c .before .before .before .before .before .before .before .before .before .before .before .args .wp) (c .before .before .before .before .before .before .before .before .before .before .before .args .p) (sym (c .before .before .before .before .before .before .before .before .job-refusal .ensures) ∙ z) (few-sent (c .before .before .before .before .before .before .before .before .before .before .before .args .part) (c .before .before .before .before .before .before .before .before .before .before .before .args .first) (c .before .before .before .before .before .before .before .before .before .before .before .args .image .now) (c .before .before .before .before .before .before .before .before .before .before .before .args .cells .now) (c .before .before .before .before .before .before .before .before .before .before .before .args .wp) (c .before .before .before .before .before .before .before .before .before .before .before .args .p) (sym (c .before .before .before .before .before .before .before .before .job-refusal .ensures) ∙ z)) (c .before .before .before .before .before .before .before .before .before .before .before .args .k) (c .before .before .before .run .result) (c .before .before .before .run .last .0) (c .write-report .result)
-    (rw (c .before .before .before .before .before .before .job-of .ensures, c .before .before .before .before .first-few .ensures) at (c .before .before .before .run .ensures .0)) (rw (c .before .before .before .before .before .before .job-of .ensures, c .before .before .before .before .first-few .ensures) at (c .before .before .before .run .ensures .1)) (c .write-report .ensures)
+returns-2 c =
+    let g = c .before .before .before .before .before .before .before .before .before .before .before .args in
+    let z = none-given (c .before .before .before .before .before .before .before .before .job-refusal .ensures) (c .before .before .before .before .before .before .before .if1 .left) in
+    let j = c .before .before .before .before .before .before .job-of .ensures in
+    let f = c .before .before .before .before .first-few .ensures in
+    let r = c .before .before .before .run in
+    reports (g .part) (g .first) (g .image .now) (g .cells .now) (g .wp) (g .p) z (few-sent (g .part) (g .first) (g .image .now) (g .cells .now) (g .wp) (g .p) z) (g .k) (r .result) (r .last .0) (c .write-report .result)
+    (rw (j, f) at (r .ensures .0)) (rw (j, f) at (r .ensures .1)) (c .write-report .ensures)
 
 pub load-first-spec : {M : Type 1} → statement M
 load-first-spec =

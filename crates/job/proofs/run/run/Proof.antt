@@ -1,19 +1,19 @@
 -- `job::run::run` meets its contract.
-use Prim.Native.Nat.{_-_, _≤_}
+use Prim.Native.Nat.{_-_, _≤_, _<_}
 use mathlib.Core.Path.{_≡_, refl, ap, _∙_}
 use native.Mathlib.Omega.{arith}
 use lib.ListN.{length}
 use borrow.Author.Needs.{needs}
 use Rattle.job.specs.declared.run.Held.{Held}
-use Rattle.job.specs.Run.{World, world, runOf, runFrom}
+use Rattle.job.specs.Run.{world}
 use Rattle.job.specs.Loader.{turned}
 use Rattle.job.specs.Kept.{Counts}
-use Rattle.job.proofs.Loop.{counts-up, starts, turns, stopped, passed, one-more}
+use Rattle.job.proofs.Loop.{endOf, endFrom, counts-up, starts, turns, stopped, passed, one-more}
 use Rattle.job.proofs.run.run.Statement.{statement}
 use Rattle.job.proofs.run.run.Tie as tie
 
 abbrev Inv-loop : tie.InvT-loop
-Inv-loop cells₀ job image k seen₀ held₀ turn₀ cells seen held turn = (held .sent ≤ k) × ((Counts (held .tally) (held .sent)) × ((length cells ≡ length cells₀) × (runOf job image (k - held .sent) (turned seen turn) (world cells held) ≡ runFrom job image cells₀ k)))
+Inv-loop cells₀ job image k seen₀ held₀ turn₀ cells seen held turn = (held .sent ≤ k) × ((Counts (held .tally) (held .sent)) × ((length cells ≡ length cells₀) × (endOf job image (k - held .sent) (turned seen turn) (world cells held) ≡ endFrom job image cells₀ k)))
 
 abbrev μ-loop : tie.MeasureT-loop
 μ-loop cells₀ job image k seen₀ held₀ turn₀ cells seen held turn = k - held .sent
@@ -25,7 +25,12 @@ first-turn-requires : tie.Need-first-turn-requires Inv-loop μ-loop
 first-turn-requires c κs = search needs
 
 loop-holds : tie.Need-loop-holds Inv-loop μ-loop
-loop-holds c = let w = starts (c .before .before .before .before .args .job) (c .before .before .before .before .args .image .now) (c .before .before .before .before .args .k) (c .first-turn .result) (c .before .before .before .before .args .cells .now) (c .before .none-sent .result) (c .before .none-sent .ensures) (c .first-turn .ensures) in (w .0, (w .1 .0, (refl, w .1 .1)))
+loop-holds c =
+    let g = c .before .before .before .before .args in
+    let n = c .before .none-sent in
+    let t = c .first-turn in
+    let w = starts (g .job) (g .image .now) (g .k) (t .result) (g .cells .now) (n .result) (n .ensures) (t .ensures) in
+    (w .0, (w .1 .0, (refl, w .1 .1)))
 
 enum-known-turn : tie.Need-enum-known-turn Inv-loop μ-loop
 enum-known-turn c = search needs
@@ -33,36 +38,61 @@ enum-known-turn c = search needs
 enum-told : tie.Need-enum-told Inv-loop μ-loop
 enum-told c = search needs
 
+stop-number-requires : tie.Need-stop-number-requires Inv-loop μ-loop
+stop-number-requires c κs = search needs
+
 same-length : tie.Need-same-length Inv-loop μ-loop
 same-length c = search needs
 
 returns : tie.Need-returns Inv-loop μ-loop
-returns c = let g = c .before .before .before .before .before .before .before .before .before .args in
-    let q = stopped (g .job) (g .image .now) (g .k - c .before .before .before .before .loop .held .sent) _ (c .before .before .before .before .loop .seen) (c .before .before .before .before .loop .turn) (world (c .before .before .before .before .loop .cells) (c .before .before .before .before .loop .held)) (runFrom (g .job) (g .image .now) (g .cells .now) (g .k)) (c .enum-told .given .1) (c .before .before .before .before .loop .inv .1 .1 .1) in
-    (ap (λ (w : World). w .held) q, ap (λ (w : World). w .cells) q)
+returns c =
+    let g = c .before .before .before .before .before .before .before .before .before .before .args in
+    let l = c .before .before .before .before .before .loop in
+    let n = c .stop-number in
+    stopped (g .job) (g .image .now) (g .k - l .held .sent) _ (n .result) (l .seen) (l .turn) (l .cells) (l .held) (endFrom (g .job) (g .image .now) (g .cells .now) (g .k))
+    (c .before .enum-told .given .1) (n .ensures) (l .inv .1 .1 .1)
 
 send-requires : tie.Need-send-requires Inv-loop μ-loop
-send-requires c κs = (counts-up (c .before .before .before .before .before .before .loop .held .tally) (c .before .before .before .before .before .before .loop .held .sent) 2147483648 (omega (arith, c .before .before .before .before .if1 .taken, c .before .before .before .before .before .before .before .before .before .before .before .pre .1)) (c .before .before .before .before .before .before .loop .inv .1 .0), omega (arith, c .before .before .before .before .if1 .taken, c .before .before .before .before .before .before .before .before .before .before .before .pre .1))
+send-requires c κs =
+    let l = c .before .before .before .before .before .before .loop in
+    let n : l .held .sent < 2147483648 = omega (arith, c .before .before .before .before .if1 .taken, c .before .before .before .before .before .before .before .before .before .before .before .pre .1) in
+    (counts-up (l .held .tally) (l .held .sent) 2147483648 (omega arith) (l .inv .1 .0), n)
 
 turn-requires : tie.Need-turn-requires Inv-loop μ-loop
 turn-requires c κs = c .before .before .before .before .before .before .before .before .before .before .before .before .before .before .before .pre .0
 
 loop-less : tie.Need-loop-less Inv-loop μ-loop
-loop-less c = omega (arith, ap (λ (h : Held). h .sent) (c .before .before .before .before .send .ensures .0), one-more (c .before .before .before .before .before .before .before .before .before .before .before .before .before .before .before .before .args .job .part) (world (c .before .before .before .before .before .before .before .before .before .before .before .loop .cells) (c .before .before .before .before .before .before .before .before .before .before .before .loop .held)) (c .before .before .before .before .before .before .before .turn .given .0 .1 .0) (c .before .before .before .before .before .before .before .turn .given .0 .1 .1 .0), c .before .before .before .before .before .before .before .before .before .if1 .taken)
+loop-less c =
+    let g = c .before .before .before .before .before .before .before .before .before .before .before .before .before .before .before .before .args in
+    let l = c .before .before .before .before .before .before .before .before .before .before .before .loop in
+    let t = c .before .before .before .before .before .before .before .turn .given .0 in
+    omega (arith, ap (λ (h : Held). h .sent) (c .before .before .before .before .send .ensures .0), one-more (g .job .part) (world (l .cells) (l .held)) (t .1 .0) (t .1 .1 .0), c .before .before .before .before .before .before .before .before .before .if1 .taken)
 
 loop-again : tie.Need-loop-again Inv-loop μ-loop
-loop-again c = let g = c .before .before .before .before .before .before .before .before .before .before .before .before .before .before .before .before .args in
-    let short : c .before .before .before .before .before .before .before .turn .given .0 .1 .1 .0 .elapsed ≤ 4294967295 = omega (arith, c .before .before .before .before .before .before .known-told .given) in
-    let w = turns (g .job) (g .image .now) (g .k) (c .before .before .before .before .before .before .before .before .before .before .before .loop .seen) (c .turn2 .last .1 .1 .1 .0) (c .before .before .before .before .before .before .before .before .before .before .before .loop .turn) (c .turn2 .result) _ _ _ (c .before .before .before .before .before .before .before .before .before .before .before .loop .cells) (c .before .before .before .before .send .last .1 .0) (c .before .before .before .before .before .before .before .before .before .before .before .loop .held) (c .before .before .before .before .send .result) (runFrom (g .job) (g .image .now) (g .cells .now) (g .k)) (c .before .before .before .before .before .before .before .before .before .if1 .taken) (c .before .before .before .before .before .before .before .turn .given .1) (c .before .before .before .before .send .ensures .0) (c .before .before .before .before .send .ensures .1) (c .turn2 .ensures .0) (c .turn2 .ensures .1) short (c .before .before .before .before .before .before .before .before .before .before .before .loop .inv .1 .0) (c .before .before .before .before .before .before .before .before .before .before .before .loop .inv .1 .1 .1) in
-    (w .0, (w .1 .0, (c .before .before .before .before .send .kept .1 .0 ∙ c .before .before .before .before .before .before .before .before .before .before .before .loop .inv .1 .1 .0, w .1 .1)))
+loop-again c =
+    let g = c .before .before .before .before .before .before .before .before .before .before .before .before .before .before .before .before .args in
+    let l = c .before .before .before .before .before .before .before .before .before .before .before .loop in
+    let t = c .before .before .before .before .before .before .before .turn .given in
+    let s = c .before .before .before .before .send in
+    let short : t .0 .1 .1 .0 .elapsed ≤ 4294967295 = omega (arith, c .before .before .before .before .before .before .known-told .given) in
+    let w = turns (g .job) (g .image .now) (g .k) (l .seen) (c .turn2 .last .1 .1 .1 .0) (l .turn) (c .turn2 .result) _ _ _ (l .cells) (s .last .1 .0) (l .held) (s .result)
+    (endFrom (g .job) (g .image .now) (g .cells .now) (g .k)) (c .before .before .before .before .before .before .before .before .before .if1 .taken) (t .1) (s .ensures .0) (s .ensures .1) (c .turn2 .ensures .0) (c .turn2 .ensures .1)
+    short (l .inv .1 .0) (l .inv .1 .1 .1) in
+    (w .0, (w .1 .0, (s .kept .1 .0 ∙ l .inv .1 .1 .0, w .1 .1)))
+
+stop-number-requires-2 : tie.Need-stop-number-requires-2 Inv-loop μ-loop
+stop-number-requires-2 c κs = search needs
 
 same-length-2 : tie.Need-same-length-2 Inv-loop μ-loop
 same-length-2 c = search needs
 
 returns-2 : tie.Need-returns-2 Inv-loop μ-loop
-returns-2 c = let g = c .before .before .before .before .before .before .before .args in
-    let q = passed (g .job) (g .image .now) (g .k) (c .before .before .loop .held .sent) (turned (c .before .before .loop .seen) (c .before .before .loop .turn)) (world (c .before .before .loop .cells) (c .before .before .loop .held)) (runFrom (g .job) (g .image .now) (g .cells .now) (g .k)) (c .if1 .left) (c .before .before .loop .inv .1 .1 .1) in
-    (ap (λ (w : World). w .held) q, ap (λ (w : World). w .cells) q)
+returns-2 c =
+    let g = c .before .before .before .before .before .before .before .before .args in
+    let l = c .before .before .before .loop in
+    let n = c .stop-number2 in
+    passed (g .job) (g .image .now) (g .k) (l .held .sent) (n .result) (l .seen) (l .turn) (l .cells) (l .held) (endFrom (g .job) (g .image .now) (g .cells .now) (g .k))
+    (c .before .if1 .left) (n .ensures) (l .inv .1 .1 .1)
 
 pub run-spec : {M : Type 1} → statement M
 run-spec =
@@ -75,11 +105,13 @@ run-spec =
     loop-holds
     enum-known-turn
     enum-told
+    stop-number-requires
     same-length
     returns
     send-requires
     turn-requires
     loop-less
     loop-again
+    stop-number-requires-2
     same-length-2
     returns-2)

@@ -1,0 +1,121 @@
+-- The marked cases hold: one computed test over the list. The number of lent cells is not counted anew in each cycle, and a job is reckoned from its
+-- operations without playing its cycles; laws allow both.
+use Prim.Native.Nat.{ℕ}
+use mathlib.Core.Path.{_≡_, refl, sym, ap, _∙_}
+use mathlib.Core.Bool.{Bool, true, false}
+use mathlib.Core.List.{List, [], _∷_}
+use borrow.Author.Tests.{eqb-true}
+use lib.Dec.{eqb}
+use lib.ListN.{length, set, replicate, length-set, length-replicate}
+use Rattle.parts.specs.Pick.{pick}
+use Rattle.parts.specs.Width.{fitsIn, sectorSize}
+use Rattle.parts.specs.Table.{rowOf, partRefusal}
+use Rattle.parts.specs.Span.{holdsb, hasBlocks, sectorOf, blockOf, protectedOf}
+use Rattle.parts.specs.Time.{hasCommand, timeOf, roundedUp}
+use Rattle.parts.proofs.Every.{every, both}
+use Rattle.chip.specs.declared.device.Device.{Device}
+use Rattle.chip.specs.declared.cycle.Cycle.{Cycle}
+use Rattle.chip.specs.Device.{freshDevice, validOperation, inRange}
+use Rattle.chip.specs.Operation.{cellsOf, completeOn, cutOn}
+use Rattle.chip.specs.Sequence.{effectOf, ignored, writtenOf}
+use Rattle.chip.specs.Cycle.{Chip, chip, Outcome, reply, actionRefusal, cycleRefusal, settledOf, readOf, writeOf, cutOf, acceptedOf, cycleOf}
+use Rattle.chip.specs.Trace.{leaves, after}
+use Rattle.driver.specs.Writes.{lastWrite}
+use Rattle.job.specs.Total.{totalOf}
+use Rattle.job.specs.Refusal.{fitAll, meets, protectionRefusal, rangeRefusal, jobRefusal}
+use Rattle.job.specs.Bill.{jobOf, fullOf, Loaded}
+use Rattle.invoice.proofs.Listed.{filling, looking}
+use Rattle.invoice.proofs.Loads.{deciding, decidingAll, reckoned, loads}
+use Rattle.demands.specs.Marked.{Case, Marked, Bus, Load, Ran, cases, imageOf, blankBench, loadSixth, afterJobs, sameBill, further, ran, asSaid, before, holdsCase, holdsMarked}
+use Rattle.chip.proofs.Ranges.{after-length}
+
+-- a cycle on cells that are known to be n
+cycleOn : ℕ → ℕ → List ℕ → Device → Cycle → Outcome
+cycleOn n part cells d c =
+    pick (eqb (cycleRefusal part n d (c .action)) 0) (acceptedOf (rowOf part) cells d c) (record { cells = cells; reply = reply (cycleRefusal part n d (c .action)) 0 d })
+
+ranOn : ℕ → ℕ → Chip → List Cycle → Ran
+ranOn n part h [] = record { accepted = true; reads = []; chip = h }
+ranOn n part h (c ∷ cs) =
+    let o = cycleOn n part (h .cells) (h .device) c in
+    further c o (ranOn n part (leaves o) cs)
+
+on-cycle : (n part : ℕ) (cells : List ℕ) (d : Device) (c : Cycle) → length cells ≡ n → cycleOf part cells d c ≡ cycleOn n part cells d c
+unfolding cycleOf cycleOn
+on-cycle n part cells d c e = rw e
+
+on-ran : (n part : ℕ) (cs : List Cycle) (h : Chip) → length (h .cells) ≡ n → ran part h cs ≡ ranOn n part h cs
+unfolding ranOn after
+on-ran n part [] h e = refl
+on-ran n part (c ∷ cs) h e =
+    let o = cycleOf part (h .cells) (h .device) c in
+    ap (further c o) (on-ran n part cs (leaves o) (after-length part h c ∙ e))
+    ∙ ap (λ (o : Outcome). further c o (ranOn n part (leaves o) cs)) (on-cycle n part (h .cells) (h .device) c e)
+
+holdsOn : Case → Bool
+holdsOn k = asSaid k (ranOn (rowOf (k .part) .cells) (k .part) (chip (before k) freshDevice) (k .cycles))
+
+on-case : (k : Case) → holdsCase k ≡ holdsOn k
+unfolding holdsOn
+on-case k =
+    ap (asSaid k)
+    (on-ran (rowOf (k .part) .cells) (k .part) (k .cycles) (chip (before k) freshDevice)
+    (length-set (replicate (rowOf (k .part) .cells) (k .fill)) (k .but .at) (k .but .value) ∙ length-replicate (rowOf (k .part) .cells) (k .fill)))
+
+-- ---- jobs, reckoned from their operations
+-- a job of the bench, reckoned
+reckon : List ℕ → ℕ → Loaded
+reckon cells sixth = reckoned (jobOf 0 0 (length (imageOf sixth)) true 10) (imageOf sixth) cells
+
+reckonAll : List ℕ → List ℕ → List ℕ
+reckonAll cells [] = cells
+reckonAll cells (x ∷ xs) = reckonAll (reckon cells x .cells) xs
+
+-- each of the jobs is accepted
+accepts : List ℕ → ℕ → Bool
+accepts cells sixth = eqb (jobRefusal 0 (length cells) 0 (imageOf sixth) true 10) 0
+
+acceptsAll : List ℕ → List ℕ → Bool
+acceptsAll cells [] = true
+acceptsAll cells (x ∷ xs) = pick (accepts cells x) (acceptsAll (reckon cells x .cells) xs) false
+
+on-job : (cells : List ℕ) (sixth : ℕ) → accepts cells sixth ≡ true → loadSixth cells sixth ≡ reckon cells sixth
+unfolding accepts reckon
+on-job cells sixth a = loads 0 cells 0 (imageOf sixth) true 10 (eqb-true _ 0 a)
+
+on-jobs : (xs cells : List ℕ) → acceptsAll cells xs ≡ true → afterJobs cells xs ≡ reckonAll cells xs
+unfolding acceptsAll reckonAll
+on-jobs [] cells a = refl
+on-jobs (x ∷ xs) cells a =
+    let b = both (accepts cells x) (acceptsAll (reckon cells x .cells) xs) a in
+    ap (λ (l : Loaded). afterJobs (l .cells) xs) (on-job cells x (b .0)) ∙ on-jobs xs (reckon cells x .cells) (b .1)
+
+-- ---- the list
+computes : Marked → Bool
+computes (Bus k) = holdsOn k
+computes (Load earlier sixth b) =
+    pick (acceptsAll blankBench earlier)
+    (pick (accepts (reckonAll blankBench earlier) sixth) (sameBill (reckon (reckonAll blankBench earlier) sixth .bill) b) false)
+    false
+
+on-marked : (k : Marked) → computes k ≡ true → holdsMarked k ≡ true
+unfolding computes
+on-marked (Bus k) c = on-case k ∙ c
+on-marked (Load earlier sixth b) c =
+    let e = both (acceptsAll blankBench earlier) _ c in
+    let f = both (accepts (reckonAll blankBench earlier) sixth) _ (e .1) in
+    let cells = on-jobs earlier blankBench (e .0) in
+    ap (λ (l : List ℕ). sameBill (loadSixth l sixth .bill) b) cells
+    ∙ (ap (λ (l : Loaded). sameBill (l .bill) b) (on-job (reckonAll blankBench earlier) sixth (f .0)) ∙ f .1)
+
+on-every : (ks : List Marked) → every computes ks ≡ true → every holdsMarked ks ≡ true
+on-every [] c = refl
+on-every (k ∷ ks) c = let b = both (computes k) (every computes ks) c in rw (on-marked k (b .0)) (on-every ks (b .1))
+
+computed : every computes cases ≡ true
+unfolding computes holdsOn ranOn cycleOn reckon reckonAll accepts acceptsAll rowOf partRefusal fitsIn sectorSize holdsb hasBlocks sectorOf blockOf protectedOf hasCommand timeOf validOperation inRange cellsOf completeOn cutOn effectOf ignored writtenOf actionRefusal cycleRefusal settledOf readOf writeOf cutOf acceptedOf lastWrite roundedUp fitAll meets protectionRefusal rangeRefusal jobRefusal totalOf fullOf filling looking deciding decidingAll
+computed = refl
+
+-- Every marked case of the list holds of the definitions that the promises of bus_cycle and load cite.
+pub marked : every holdsMarked cases ≡ true
+marked = on-every cases computed

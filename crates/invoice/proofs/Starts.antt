@@ -1,0 +1,203 @@
+-- The operations that sent cycles start: none by reads, one by an operation's cycles; and the erases and programs counted are those operations.
+use Prim.Native.Nat.{ℕ, zero, suc, _+_, _≤_, _<_}
+use mathlib.Core.Path.{_≡_, refl, sym, ap, ap₂, _∙_}
+use mathlib.Core.Bool.{Bool, true, false}
+use mathlib.Core.List.{List, [], _∷_, _++_, append-assoc, map-append}
+use native.Mathlib.Nat.{zero-add}
+use native.Mathlib.Omega.{arith}
+use borrow.Author.Tests.{ne-eqb}
+use lib.Dec.{eqb}
+use lib.ListN.{length, replicate}
+use Rattle.parts.specs.Pick.{pick}
+use Rattle.parts.specs.Table.{rowOf}
+use Rattle.parts.proofs.Every.{both}
+use Rattle.parts.specs.Time.{pollsOf}
+use Rattle.chip.specs.declared.device.Device.{Device}
+use Rattle.chip.specs.declared.device.Operation.{Operation}
+use Rattle.chip.specs.declared.cycle.Action.the-variants.{Read}
+use Rattle.chip.specs.declared.cycle.Cycle.{Cycle}
+use Rattle.chip.specs.Device.{busy, idle}
+use Rattle.chip.specs.Sequence.{ignored}
+use Rattle.chip.specs.Cycle.{Chip, Outcome, outcome, shownOf, status, toggled, cycleRefusal, settledOf, readOf, acceptedOf, cycleOf}
+use Rattle.chip.specs.Trace.{after, play, startedBy, startedIn, uncutAction, uncut}
+use Rattle.driver.specs.declared.writes.Write.{Write}
+use Rattle.driver.specs.Writes.{writesOf}
+use Rattle.driver.specs.Talk.{writeCycles, operationOf, cycle}
+use Rattle.driver.specs.Refusals.{startRefusal}
+use Rattle.driver.proofs.Asked.{asking, begun}
+use Rattle.driver.proofs.Theorems.{writes-start}
+use Rattle.job.specs.declared.loader.Job.{Job}
+use Rattle.job.specs.declared.loader.Purpose.the-variants.{Poll, Confirm}
+use Rattle.job.specs.declared.run.Tally.{Tally}
+use Rattle.job.specs.Run.{Sent, sent, World, sendOf, playOf}
+use Rattle.job.specs.Sent.{operated, scanRead}
+use Rattle.job.specs.Formulas.{tallyOf}
+use Rattle.job.proofs.Rest.{chipOf}
+use Rattle.job.proofs.Counts.{tally-append, program-tally, erase-tally}
+use Rattle.invoice.specs.Started.{cyclesIn, many}
+
+-- ---- lists of cycles
+-- cycles in a row
+pub started-append : (part : ℕ) (h : Chip) (cs ds : List Cycle) → startedIn part h (cs ++ ds) ≡ startedIn part h cs ++ startedIn part (play part h cs) ds
+started-append part h [] ds = refl
+started-append part h (c ∷ cs) ds =
+    ap (λ (os : List Operation). startedBy part h c ++ os) (started-append part (after part h c) cs ds)
+    ∙ sym (append-assoc (startedBy part h c) (startedIn part (after part h c) cs) (startedIn part (play part (after part h c) cs) ds))
+
+-- a read starts nothing
+pub read-starts : (part : ℕ) (h : Chip) (e : ℕ) (wp : Bool) (a : ℕ) → startedBy part h (cycle e wp (Read a)) ≡ []
+unfolding startedBy after cycleOf acceptedOf readOf
+read-starts part h e wp a = by (eqb (cycleRefusal part (length (h .cells)) (h .device) (Read a)) 0)
+  where
+    s : Chip
+    s = settledOf (rowOf part) (h .cells) (h .device) e
+
+    shown : Bool → Outcome
+    shown b = pick b (outcome (s .cells) (status (s .device .running)) (toggled (s .device))) (outcome (s .cells) (shownOf (rowOf part) (s .cells) (s .device .mode) a) (s .device))
+
+    o : Bool → Outcome
+    o b = pick b (shown (busy (s .device))) (record { cells = h .cells; reply = record { answer = cycleRefusal part (length (h .cells)) (h .device) (Read a); value = 0; device = h .device } })
+
+    starts : Bool → Device → List Operation
+    starts b d = pick b [] (pick (busy d) (d .running ∷ []) [])
+
+    rests : (b : Bool) → busy (s .device) ≡ b → starts b (shown b .reply .device) ≡ []
+    rests true q = refl
+    rests false q = rw q
+
+    by : (b : Bool) → pick b (starts (busy (s .device)) (o b .reply .device)) [] ≡ []
+    by true = rests (busy (s .device)) refl
+    by false = refl
+
+-- nor do n reads in front of cycles that start nothing
+pub reads-start : (part n e : ℕ) (wp : Bool) (a : ℕ) (cs : List Cycle) → ((h : Chip) → startedIn part h cs ≡ []) → (h : Chip) → startedIn part h (replicate n (cycle e wp (Read a)) ++ cs) ≡ []
+reads-start part zero e wp a cs none h = none h
+reads-start part (suc n) e wp a cs none h = rw (read-starts part h e wp a) (reads-start part n e wp a cs none (after part h (cycle e wp (Read a))))
+
+pub one-read-starts : (part e : ℕ) (wp : Bool) (a : ℕ) (h : Chip) → startedIn part h (cycle e wp (Read a) ∷ []) ≡ []
+one-read-starts part e wp a h = rw (read-starts part h e wp a)
+
+-- ---- no cut
+uncut-append : (cs ds : List Cycle) → uncut cs ≡ true → uncut ds ≡ true → uncut (cs ++ ds) ≡ true
+uncut-append [] ds a b = b
+uncut-append (c ∷ cs) ds a b = let w = both (uncutAction (c .action)) (uncut cs) a in rw (w .0) (uncut-append cs ds (w .1) b)
+
+writes-uncut : (wp : Bool) (ws : List Write) → uncut (writeCycles wp ws) ≡ true
+writes-uncut wp [] = refl
+writes-uncut wp (w ∷ ws) = writes-uncut wp ws
+
+reads-uncut : (n e f : ℕ) (wp : Bool) (a : ℕ) → uncut (replicate n (cycle e wp (Read a)) ++ (cycle f wp (Read a) ∷ [])) ≡ true
+reads-uncut zero e f wp a = refl
+reads-uncut (suc n) e f wp a = reads-uncut n e f wp a
+
+-- ---- the chip of a played list
+pub world-plays : (part : ℕ) (w : World) (L : List Sent) → chipOf (playOf part w L) ≡ play part (chipOf w) (cyclesIn L)
+unfolding sendOf after
+world-plays part w [] = refl
+world-plays part w (s ∷ L) = world-plays part (sendOf part w (s .purpose) (s .cycle)) L
+
+pub play-append : (part : ℕ) (w : World) (L M : List Sent) → playOf part w (L ++ M) ≡ playOf part (playOf part w L) M
+play-append part w [] M = refl
+play-append part w (s ∷ L) M = play-append part (sendOf part w (s .purpose) (s .cycle)) L M
+
+polls-cycles : (n : ℕ) (c d : Cycle) → cyclesIn (replicate n (sent Poll c) ++ (sent Confirm d ∷ [])) ≡ replicate n c ++ (d ∷ [])
+polls-cycles zero c d = refl
+polls-cycles (suc n) c d = ap (λ (l : List Cycle). c ∷ l) (polls-cycles n c d)
+
+pub operated-cycles : (j : Job) (command a x : ℕ) → command ≤ 1
+    → cyclesIn (operated j command a x)
+    ≡ writeCycles (j .wp) (writesOf (j .row) command a x) ++ (replicate (pollsOf (j .row) command (j .p)) (cycle (j .p) (j .wp) (Read a)) ++ (cycle 0 (j .wp) (Read a) ∷ []))
+unfolding operated writesOf
+operated-cycles j zero a x le = ap (λ (l : List Cycle). writeCycles (j .wp) (writesOf (j .row) 0 a x) ++ l) (polls-cycles (pollsOf (j .row) 0 (j .p)) _ _)
+operated-cycles j (suc zero) a x le = ap (λ (l : List Cycle). writeCycles (j .wp) (writesOf (j .row) 1 a x) ++ l) (polls-cycles (pollsOf (j .row) 1 (j .p)) _ _)
+operated-cycles j (suc (suc c)) a x le = absurd (omega arith)
+
+cycles-append : (L M : List Sent) → cyclesIn (L ++ M) ≡ cyclesIn L ++ cyclesIn M
+cycles-append L M = map-append (λ (s : Sent). s .cycle) L M
+
+-- ---- sent cycles
+-- from the world w on, the cycles L start the operations os; what they count as erases and programs are those, no others are among them, and there is no cut
+pub record Starts (part : ℕ) (w : World) (L : List Sent) (os : List Operation) : Type 0 where
+  pub begun : startedIn part (chipOf w) (cyclesIn L) ≡ os
+  pub erases : tallyOf L .erases ≡ many 1 os
+  pub programs : tallyOf L .programs ≡ many 0 os
+  pub blocks : many 2 os ≡ 0
+  pub chips : many 3 os ≡ 0
+  pub whole : uncut (cyclesIn L) ≡ true
+
+many-append : (k : ℕ) (os ps : List Operation) → many k (os ++ ps) ≡ many k os + many k ps
+many-append k [] ps = sym (zero-add (many k ps))
+many-append k (o ∷ os) ps = omega (arith, many-append k os ps)
+
+module _ (part : ℕ) (w : World) where
+  -- no cycle
+  pub starts-none : Starts part w [] []
+  unfolding tallyOf
+  starts-none = record { begun = refl; erases = refl; programs = refl; blocks = refl; chips = refl; whole = refl }
+
+  -- two lists in a row
+  pub starts-append : (L M : List Sent) (os ps : List Operation) → Starts part w L os → Starts part (playOf part w L) M ps → Starts part w (L ++ M) (os ++ ps)
+  starts-append L M os ps s t =
+      record {
+        begun = ap (startedIn part (chipOf w)) (cycles-append L M)
+            ∙ (started-append part (chipOf w) (cyclesIn L) (cyclesIn M)
+            ∙ ap₂ {A = List Operation} {B = List Operation} {C = List Operation} (λ x y. x ++ y) (s .begun)
+            (ap (λ (h : Chip). startedIn part h (cyclesIn M)) (sym (world-plays part w L)) ∙ t .begun));
+        erases = ap (λ (t : Tally). t .erases) (tally-append L M) ∙ omega (arith, many-append 1 os ps, s .erases, t .erases);
+        programs = ap (λ (t : Tally). t .programs) (tally-append L M) ∙ omega (arith, many-append 0 os ps, s .programs, t .programs);
+        blocks = omega (arith, many-append 2 os ps, s .blocks, t .blocks);
+        chips = omega (arith, many-append 3 os ps, s .chips, t .chips);
+        whole = ap uncut (cycles-append L M) ∙ uncut-append (cyclesIn L) (cyclesIn M) (s .whole) (t .whole);
+      }
+
+  module _ (j : Job) (a : ℕ) where
+    -- a read
+    pub starts-read : Starts part w (scanRead j a ∷ []) []
+    unfolding tallyOf
+    starts-read = record { begun = rw (read-starts part (chipOf w) 0 (j .wp) a); erases = refl; programs = refl; blocks = refl; chips = refl; whole = refl }
+
+-- an operation's cycles, from an idle chip, where it is accepted and not ignored
+module _ (j : Job) (command a x : ℕ) (few : command ≤ 1) (row : j .row ≡ rowOf (j .part)) (w : World)
+    (accepted : startRefusal (j .part) command a x (j .p) ≡ 0) (whole : length (w .cells) ≡ rowOf (j .part) .cells)
+    (rests : idle (w .held .device) ≡ true) (heeded : ignored (rowOf (j .part)) (j .wp) command a ≡ false) where
+  abbrev o : Operation
+  o = operationOf (rowOf (j .part)) command a x
+
+  listed : cyclesIn (operated j command a x)
+      ≡ writeCycles (j .wp) (writesOf (rowOf (j .part)) command a x)
+      ++ (replicate (pollsOf (rowOf (j .part)) command (j .p)) (cycle (j .p) (j .wp) (Read a)) ++ (cycle 0 (j .wp) (Read a) ∷ []))
+  listed = rw (← row) (operated-cycles j command a x few)
+
+  operated-begun : startedIn (j .part) (chipOf w) (cyclesIn (operated j command a x)) ≡ o ∷ []
+  operated-begun =
+      let r = rowOf (j .part) in
+      let ws = writeCycles (j .wp) (writesOf r command a x) in
+      let n = pollsOf r command (j .p) in
+      let s = writes-start (j .part) command a x (j .wp) (w .cells) (w .held .device) (asking (j .part) command a x (begun (j .part) command a x (j .p) accepted .asked)) whole rests heeded in
+      ap (startedIn (j .part) (chipOf w)) listed
+      ∙ (started-append (j .part) (chipOf w) ws _
+      ∙ ap₂ {A = List Operation} {B = List Operation} {C = List Operation} (λ x y. x ++ y) (s .1)
+      (reads-start (j .part) n (j .p) (j .wp) a (cycle 0 (j .wp) (Read a) ∷ []) (one-read-starts (j .part) 0 (j .wp) a) (play (j .part) (chipOf w) ws)))
+
+  tallies : (c : ℕ) → c ≤ 1 → (tallyOf (operated j c a x) .erases ≡ pick (eqb c 1) 1 0) × (tallyOf (operated j c a x) .programs ≡ pick (eqb c 0) 1 0)
+  tallies zero le = (ap (λ (t : Tally). t .erases) (program-tally j a x), ap (λ (t : Tally). t .programs) (program-tally j a x))
+  tallies (suc zero) le = (ap (λ (t : Tally). t .erases) (erase-tally j a x), ap (λ (t : Tally). t .programs) (erase-tally j a x))
+  tallies (suc (suc c)) le = absurd (omega arith)
+
+  other : (c : ℕ) → c ≤ 1 → (k : ℕ) → 1 < k → pick (eqb c k) 1 0 + 0 ≡ 0
+  other c le k lt = rw (ne-eqb c k (λ e. omega arith))
+
+  pub starts-operated : Starts (j .part) w (operated j command a x) (o ∷ [])
+  starts-operated =
+      let t = tallies command few in
+      let n = pollsOf (rowOf (j .part)) command (j .p) in
+      let ws = writeCycles (j .wp) (writesOf (rowOf (j .part)) command a x) in
+      let polls = replicate n (cycle (j .p) (j .wp) (Read a)) ++ (cycle 0 (j .wp) (Read a) ∷ []) in
+      record {
+        begun = operated-begun;
+        erases = omega (arith, t .0);
+        programs = omega (arith, t .1);
+        blocks = other command few 2 (omega arith);
+        chips = other command few 3 (omega arith);
+        whole = ap uncut listed ∙ uncut-append ws polls (writes-uncut (j .wp) (writesOf (rowOf (j .part)) command a x)) (reads-uncut n (j .p) 0 (j .wp) a);
+      }

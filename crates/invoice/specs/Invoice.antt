@@ -1,0 +1,56 @@
+-- What the customer pays for: what is said of every accepted job.
+use Prim.Native.Nat.{ℕ, _+_, _*_, _/_, _≤_, _<_}
+use mathlib.Core.Path.{_≡_}
+use mathlib.Core.Bool.{Bool, true}
+use mathlib.Core.List.{List}
+use lib.ListN.{length, getD, take, drop}
+use Rattle.parts.specs.Width.{valueOf, sectorSize}
+use Rattle.parts.specs.Table.{rowOf}
+use Rattle.parts.specs.Time.{pollsOf}
+use Rattle.chip.specs.declared.device.Device.{Device}
+use Rattle.chip.specs.declared.device.Operation.{Operation}
+use Rattle.chip.specs.declared.cycle.Cycle.{Cycle}
+use Rattle.chip.specs.Device.{freshDevice, idle}
+use Rattle.chip.specs.Cycle.{chip}
+use Rattle.chip.specs.Trace.{play, startedIn, uncut as uncutAll}
+use Rattle.job.specs.Total.{sumOf}
+use Rattle.job.specs.Sent.{sentOf}
+use Rattle.job.specs.Bill.{jobOf, playedAll, Loaded}
+use Rattle.invoice.specs.Started.{cyclesIn, many}
+
+-- the operations that the job's cycles start, from a fresh device on
+abbrev pub started : ℕ → List ℕ → ℕ → List ℕ → Bool → ℕ → List Operation
+started part cells first image wp p = startedIn part (chip cells freshDevice) (cyclesIn (sentOf (jobOf part first (length image) wp p) image cells))
+
+-- what is said of the cells and the bill that a job came to
+pub record Invoice (part : ℕ) (cells : List ℕ) (first : ℕ) (image : List ℕ) (wp : Bool) (p : ℕ) (l : Loaded) : Type 0 where
+  -- the range holds the image, meant of values; every other cell is the word that it was; the device ends fresh, and so idle
+  pub holds : (i : ℕ) → i < length image → valueOf (rowOf part .width) (getD (l .cells) (first + i) 0) ≡ getD image i 0
+  pub below : (i : ℕ) → i < first → getD (l .cells) i 0 ≡ getD cells i 0
+  pub above : (i : ℕ) → first + length image ≤ i → getD (l .cells) i 0 ≡ getD cells i 0
+  pub rests : playedAll part cells first image wp p .held .device ≡ freshDevice
+  -- the erases and programs are the operations that the cycles sent start on the chip; they start no other
+  pub erases : l .bill .erases ≡ many 1 (started part cells first image wp p)
+  pub programs : l .bill .programs ≡ many 0 (started part cells first image wp p)
+  pub blocks : many 2 (started part cells first image wp p) ≡ 0
+  pub chips : many 3 (started part cells first image wp p) ≡ 0
+  -- polls = sum of N over operations; spent = polls times p; confirms = erases + programs
+  pub polls : l .bill .polls ≡ l .bill .erases * pollsOf (rowOf part) 1 p + l .bill .programs * pollsOf (rowOf part) 0 p
+  pub spent : l .bill .spent ≡ l .bill .polls * p
+  pub confirms : l .bill .confirms ≡ l .bill .erases + l .bill .programs
+  -- scans = cells in range plus cells of unerased sectors: with the cells of erased sectors they are twice the range's
+  pub scans : l .bill .scans + l .bill .erases * sectorSize (rowOf part .width) ≡ length image + length image
+  -- saved = (every sector erased and every cell programmed, each at N times p) less spent
+  pub saved : l .bill .saved + l .bill .spent ≡ (length image / sectorSize (rowOf part .width) * pollsOf (rowOf part) 1 p + length image * pollsOf (rowOf part) 0 p) * p
+  -- sum = the range's values added in 16 bits, wrapping; and the answer is 0
+  pub sum : l .bill .sum ≡ sumOf (rowOf part .width) (take (length image) (drop first (l .cells)))
+  pub answer : l .bill .answer ≡ 0
+
+-- a list of bus cycles that also loads the image: from the same cells and an idle device, without cut, block or chip erase, to an idle device
+pub record Rival (part : ℕ) (cells : List ℕ) (first : ℕ) (image : List ℕ) (d : Device) (cs : List Cycle) : Type 0 where
+  pub begins : idle d ≡ true
+  pub uncut : uncutAll cs ≡ true
+  pub blocks : many 2 (startedIn part (chip cells d) cs) ≡ 0
+  pub chips : many 3 (startedIn part (chip cells d) cs) ≡ 0
+  pub ends : idle (play part (chip cells d) cs .device) ≡ true
+  pub holds : (i : ℕ) → i < length image → valueOf (rowOf part .width) (getD (play part (chip cells d) cs .cells) (first + i) 0) ≡ getD image i 0
