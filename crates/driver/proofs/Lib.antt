@@ -1,5 +1,6 @@
 pub mod Asked
 pub mod Places
+pub mod Nth
 pub mod Ready
 pub mod Steps
 pub mod Within

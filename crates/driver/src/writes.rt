@@ -3,8 +3,10 @@ use crate::refusals::command_refusal;
 use parts::Row;
 ghost use mathlib.Core.Path.{_≡_};
 ghost use Prim.Native.Nat.{_<_};
+ghost use lib.Dec.{eqb};
+ghost use Rattle.parts.specs.Pick.{pick};
 ghost use Rattle.driver.specs.Usual.{Usual};
-ghost use Rattle.driver.specs.Writes.{commandWrites, kth, kthWrite, lastWrite, nthWrite, writeCount, writes, writesOf};
+ghost use Rattle.driver.specs.Writes.{commandWrites, kth, kthWrite, lastWrite, nthWrite, write, writeCount, writes, writesOf};
 
 pub struct Write {
     pub address: u32,
@@ -33,6 +35,42 @@ pub(crate) fn write_count(command: u32) -> u32
         return 4;
     }
     6
+}
+
+// AAH at U1.
+fn unlock_one(row: Row) -> Write
+    ensures { λ r. ⌜ r ≡ write (row .u1) 0xaa ⌝ }
+{
+    Write {
+        address: row.u1,
+        data: 0xaa,
+    }
+}
+
+// 55H at U2.
+fn unlock_two(row: Row) -> Write
+    ensures { λ r. ⌜ r ≡ write (row .u2) 0x55 ⌝ }
+{
+    Write {
+        address: row.u2,
+        data: 0x55,
+    }
+}
+
+// A0H at U1 arms program, 80H at U1 goes on to an erase.
+fn third_write(row: Row, command: u32) -> Write
+    ensures { λ r. ⌜ r ≡ write (row .u1) (pick (eqb command 0) 0xa0 0x80) ⌝ }
+{
+    if command == 0 {
+        return Write {
+            address: row.u1,
+            data: 0xa0,
+        };
+    }
+    Write {
+        address: row.u1,
+        data: 0x80,
+    }
 }
 
 // The write that starts the operation.
@@ -72,34 +110,21 @@ fn writes_of(row: Row, command: u32, address: u32, data: u16) -> Writes
         address: 0,
         data: 0,
     };
-    let one = Write {
-        address: row.u1,
-        data: 0xaa,
-    };
-    let two = Write {
-        address: row.u2,
-        data: 0x55,
-    };
+    let one = unlock_one(row);
+    let two = unlock_two(row);
+    let three = third_write(row, command);
     let last = last_write(row, command, address, data);
     if command == 0 {
-        let arm = Write {
-            address: row.u1,
-            data: 0xa0,
-        };
         return Writes {
             answer: 0,
             count: 4,
-            writes: [one, two, arm, last, none, none],
+            writes: [one, two, three, last, none, none],
         };
     }
-    let on = Write {
-        address: row.u1,
-        data: 0x80,
-    };
     Writes {
         answer: 0,
         count: 6,
-        writes: [one, two, on, one, two, last],
+        writes: [one, two, three, one, two, last],
     }
 }
 
@@ -109,9 +134,16 @@ pub(crate) fn nth_write(row: Row, command: u32, address: u32, data: u16, k: u32)
     requires { ⌜ k < writeCount command ⌝ }
     ensures { λ r. ⌜ r ≡ nthWrite row command address «data» k ⌝ }
 {
-    let all = writes_of(row, command, address, data);
-    let list = all.writes;
-    list[k as usize]
+    if k + 1 == write_count(command) {
+        return last_write(row, command, address, data);
+    }
+    match k {
+        0 => unlock_one(row),
+        1 => unlock_two(row),
+        2 => third_write(row, command),
+        3 => unlock_one(row),
+        _ => unlock_two(row),
+    }
 }
 
 // One command's writes together, 0 program, 1 sector, 2 block, 3 chip: refusals 1, 14, 3, 4.

@@ -349,10 +349,8 @@ impl Loader {
         let d = self.driver;
         match stage {
             Stage::Scanning => job.scanned(image, seen, self.base, self.at),
-            Stage::Erasing => job.driven(image, Stage::Erasing, self.base, self.at, d.step(reply)),
-            Stage::Filling => job.driven(image, Stage::Filling, self.base, self.at, d.step(reply)),
             Stage::Looking => job.burn(image, self.base, self.at, reply),
-            Stage::Burning => job.driven(image, Stage::Burning, self.base, self.at, d.step(reply)),
+            _ => job.driven(image, stage, self.base, self.at, d.step(reply)),
         }
     }
 

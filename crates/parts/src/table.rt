@@ -1,6 +1,7 @@
 // The part table of document 01, a line a part.
 ghost use mathlib.Core.Path.{_≡_};
-ghost use Rattle.parts.specs.Table.{foundOf, rowFrom};
+ghost use Prim.Native.Nat.{_≤_};
+ghost use Rattle.parts.specs.Table.{foundOf, lineOf, rowFrom};
 
 // A part's line of the table: the columns Width, Cells, Block (0: none), Device ID, Program,
 // Sector/block and Chip (times in µs), and the facts beside them: U1, U2 and how many addresses
@@ -92,6 +93,27 @@ const LINES: [Line; 11] = [
     },
 ];
 
+// The line of a part. Each place of the table is named by a constant, so that the compiled code reads it where it stands: at an
+// index known only later the whole table would be copied first.
+fn line_of(part: u32) -> Line
+    requires { ⌜ part ≤ 10 ⌝ }
+    ensures { λ r. ⌜ r ≡ lineOf part ⌝ }
+{
+    match part {
+        0 => LINES[0],
+        1 => LINES[1],
+        2 => LINES[2],
+        3 => LINES[3],
+        4 => LINES[4],
+        5 => LINES[5],
+        6 => LINES[6],
+        7 => LINES[7],
+        8 => LINES[8],
+        9 => LINES[9],
+        _ => LINES[10],
+    }
+}
+
 // Each number of a line by its name.
 fn named(line: Line) -> Row
     ensures { λ r. ⌜ r ≡ rowFrom line ⌝ }
@@ -131,6 +153,6 @@ pub fn part_row(part: u32) -> Found
     }
     Found {
         answer: 0,
-        row: named(LINES[part as usize]),
+        row: named(line_of(part)),
     }
 }

@@ -1,5 +1,6 @@
 -- `parts::table::part_row` meets its contract.
 use Prim.Native.Nat.{_≤_}
+use mathlib.Core.Path.{sym}
 use native.Mathlib.Omega.{arith}
 use lib.ListN.{List·getD-eq-default}
 use borrow.Author.Tests.{lt-ltb, le-ltb}
@@ -15,20 +16,17 @@ returns : tie.Need-returns
 unfolding rowOf partRefusal
 returns c = let h : 11 ≤ c .before .before .args .part = omega arith in simp (lt-ltb _ _ (c .before .if1 .taken), List·getD-eq-default lines noLine h, c .named .ensures)
 
-mul-named : tie.Need-mul-named
-mul-named c = search needs
-
-array-copy-out-named : tie.Need-array-copy-out-named
-array-copy-out-named c = search needs
+line-of-requires : tie.Need-line-of-requires
+line-of-requires c κs = search needs
 
 named-requires-2 : tie.Need-named-requires-2
 named-requires-2 c κs = search needs
 
 returns-2 : tie.Need-returns-2
 unfolding rowOf partRefusal
-returns-2 c = simp (le-ltb _ _ (c .before .before .if1 .left), c .named2 .ensures)
+returns-2 c = simp (le-ltb _ _ (c .before .before .if1 .left), sym (c .before .line-of .ensures), c .named2 .ensures)
 
 pub part-row-spec : {M : Type 1} → statement M
 part-row-spec =
     tie.close
-    (tie.spec named-requires returns mul-named array-copy-out-named named-requires-2 returns-2)
+    (tie.spec named-requires returns line-of-requires named-requires-2 returns-2)
