@@ -1,6 +1,6 @@
 -- What is known of an accepted cycle and of a state in range.
-use Prim.Native.Nat.{ℕ, suc, _+_, _≤_, _<_}
-use mathlib.Core.Path.{_≡_, refl, sym, ap, _∙_}
+use Prim.Native.Nat.{ℕ, _+_, _≤_, _<_}
+use mathlib.Core.Path.{_≡_, refl}
 use mathlib.Core.Bool.{Bool, true, false}
 use native.Mathlib.Omega.{arith}
 use borrow.Author.Tests.{ltb-true, ltb-false, lt-ltb, le-ltb, eqb-true, eq-eqb}
@@ -8,38 +8,24 @@ use lib.Dec.{eqb, ltb}
 use Rattle.parts.specs.Pick.{pick}
 use Rattle.parts.specs.Width.{fitsIn}
 use Rattle.parts.specs.Table.{rowOf, partRefusal}
-use Rattle.parts.specs.Span.{hasBlocks, sectorOf, blockOf}
+use Rattle.parts.specs.Span.{hasBlocks}
 use Rattle.parts.specs.Time.{hasCommand, timeOf}
 use Rattle.parts.specs.declared.span.Span.{Span}
 use Rattle.parts.specs.declared.table.Row.{Row}
 use Rattle.parts.proofs.Every.{apart, both, unless, given, split}
 use Rattle.parts.proofs.Sound.{width-most, u1-compared, device-word}
 use Rattle.parts.proofs.Ranges.{sector-fits, block-fits}
+use Rattle.parts.proofs.Refused.{zero-left, none-first}
 use Rattle.chip.specs.declared.device.Mode.{Mode}
 use Rattle.chip.specs.declared.device.Mode.the-variants.{ReadMode, Identification}
 use Rattle.chip.specs.declared.device.Operation.{Operation}
 use Rattle.chip.specs.declared.device.Device.{Device}
 use Rattle.chip.specs.declared.cycle.Action.{Action}
-use Rattle.chip.specs.declared.cycle.Action.the-variants.{Read, Write, Idle, Cut}
+use Rattle.chip.specs.declared.cycle.Action.the-variants.{Read, Write}
 use Rattle.chip.specs.Device.{busy, reads, validOperation, inRange}
 use Rattle.chip.specs.Operation.{cellsOf}
 use Rattle.chip.specs.Cycle.{actionRefusal, cycleRefusal}
 use Rattle.chip.specs.Sized.{Sized, Runs}
-
--- a choice that is 0 where the other branch is not
-pub zero-left : (b : Bool) (x k : ℕ) → pick b x (suc k) ≡ 0 → (b ≡ true) × (x ≡ 0)
-zero-left true x k e = (refl, e)
-zero-left false x k e = absurd (omega arith)
-
--- a refusal in front
-none-first : (x y : ℕ) → pick (ltb 0 x) x y ≡ 0 → (x ≡ 0) × (y ≡ 0)
-none-first x y = split (λ (n : ℕ). n ≡ 0 → (x ≡ 0) × (y ≡ 0)) (ltb 0 x) x y (λ l e. absurd (no (ltb-true 0 x l) e)) (λ l e. (zero (ltb-false 0 x l), e))
-  where
-    no : 0 < x → x ≡ 0 → ⊥
-    no h e = omega arith
-
-    zero : x ≤ 0 → x ≡ 0
-    zero h = omega arith
 
 -- ---- an accepted cycle
 pub record Accepted (part n : ℕ) (d : Device) (a : Action) : Type 0 where
@@ -77,7 +63,7 @@ pub record Valid (r : Row) (d : Device) : Type 0 where
   pub stage : d .stage ≡ 0
   pub mode : d .mode ≡ ReadMode
 
-read-mode : (m : Mode) → reads m ≡ true → m ≡ ReadMode
+pub read-mode : (m : Mode) → reads m ≡ true → m ≡ ReadMode
 read-mode ReadMode e = refl
 read-mode Identification e = apart e
 

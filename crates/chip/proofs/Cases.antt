@@ -1,13 +1,11 @@
 -- What a cycle does, case by case: callers cite these laws and not the definition's text.
-use Prim.Native.Nat.{ℕ, zero-le, _-_, _≤_, _<_}
-use mathlib.Core.Path.{_≡_, refl, sym, ap, _∙_}
+use Prim.Native.Nat.{ℕ, _-_, _≤_, _<_}
+use mathlib.Core.Path.{_≡_, _∙_}
 use mathlib.Core.Bool.{Bool, true, false, not}
 use mathlib.Core.List.{List}
 use native.Mathlib.Omega.{arith}
 use borrow.Author.Tests.{lt-ltb, le-ltb, ne-eqb}
-use lib.Dec.{ltb}
 use lib.ListN.{length, getD}
-use Rattle.parts.specs.Pick.{pick}
 use Rattle.parts.specs.Width.{valueOf, fitsIn}
 use Rattle.parts.specs.Table.{rowOf, partRefusal}
 use Rattle.parts.specs.declared.table.Row.{Row}
@@ -15,12 +13,12 @@ use Rattle.chip.specs.declared.device.Mode.the-variants.{ReadMode}
 use Rattle.chip.specs.declared.device.Operation.{Operation}
 use Rattle.chip.specs.declared.device.Device.{Device}
 use Rattle.chip.specs.declared.cycle.Action.{Action}
-use Rattle.chip.specs.declared.cycle.Action.the-variants.{Read, Write, Idle, Cut}
+use Rattle.chip.specs.declared.cycle.Action.the-variants.{Read, Write}
 use Rattle.chip.specs.declared.cycle.Cycle.{Cycle}
 use Rattle.chip.specs.Device.{operation, noOperation, device, freshDevice, busy, inRange}
 use Rattle.chip.specs.Operation.{completeOn}
 use Rattle.chip.specs.Sequence.{writtenOf}
-use Rattle.chip.specs.Cycle.{Chip, chip, Outcome, outcome, reply, settledOf, withLeft, status, shownOf, readOf, writeOf, actionRefusal, cycleRefusal, acceptedOf, cycleOf}
+use Rattle.chip.specs.Cycle.{chip, outcome, reply, settledOf, withLeft, status, readOf, writeOf, actionRefusal, cycleRefusal, acceptedOf, cycleOf}
 use Rattle.chip.proofs.Accepted.{Accepted, accepting, Valid, valid-range}
 
 abbrev pub cycle : ℕ → Bool → Action → Cycle

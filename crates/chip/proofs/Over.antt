@@ -6,7 +6,7 @@ use native.Mathlib.Nat.{not-suc-le-zero, le-of-suc-le-suc}
 use native.Mathlib.Numerals.{add-one}
 use native.Mathlib.Omega.{arith}
 use lib.ListN.{length, getD, set, take, drop, length-append, length-take, length-drop, length-map}
-use lib.Seq.{set-split, drop-cons, drop-drop}
+use lib.Seq.{set-split, drop-cons}
 use Rattle.parts.specs.Span.{span}
 use Rattle.parts.specs.declared.span.Span.{Span}
 use Rattle.chip.specs.Operation.{over}

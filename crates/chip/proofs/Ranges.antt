@@ -1,14 +1,12 @@
 -- The model's own states are in range: refusal 5 never arises from them. And no cell is gained or lost.
-use Prim.Native.Nat.{ℕ, _≤_, _<_}
-use mathlib.Core.Path.{_≡_, refl, sym, ap, _∙_}
+use Prim.Native.Nat.{ℕ, _<_}
+use mathlib.Core.Path.{_≡_, refl, ap, _∙_}
 use mathlib.Core.Bool.{Bool, true, false}
 use mathlib.Core.List.{List, [], _∷_, _++_}
 use native.Mathlib.Nat.{le-refl}
-use native.Mathlib.Omega.{arith}
 use borrow.Author.Tests.{le-ltb, eqb-true}
-use lib.Dec.{eqb, ltb}
+use lib.Dec.{eqb}
 use lib.ListN.{length}
-use Rattle.parts.specs.Pick.{pick}
 use Rattle.parts.specs.Width.{fitsIn}
 use Rattle.parts.specs.Table.{rowOf}
 use Rattle.parts.specs.Time.{hasCommand}
@@ -21,12 +19,11 @@ use Rattle.chip.specs.declared.cycle.Action.{Action}
 use Rattle.chip.specs.declared.cycle.Action.the-variants.{Read, Write, Idle, Cut}
 use Rattle.chip.specs.declared.cycle.Cycle.{Cycle}
 use Rattle.chip.specs.Device.{busy, inRange}
-use Rattle.chip.specs.Operation.{cutOn}
-use Rattle.chip.specs.Sequence.{ignored, returned, started, afterEffect, effectOf, writtenOf}
+use Rattle.chip.specs.Sequence.{ignored, returned, started, afterEffect, writtenOf}
 use Rattle.chip.specs.Cycle.{Chip, Outcome, toggled, readOf, writeOf, cutOf, actionRefusal, cycleRefusal, settledOf, actedOf, acceptedOf, cycleOf}
 use Rattle.chip.specs.Sized.{Runs}
 use Rattle.chip.specs.Trace.{after, play, startedBy, startedIn}
-use Rattle.chip.proofs.Accepted.{Accepted, accepted, Valid, pending, valid-range, write-there, runs}
+use Rattle.chip.proofs.Accepted.{Accepted, accepted, pending, valid-range, write-there, runs}
 use Rattle.chip.proofs.Settled.{settled-length, settled-range, cut-length, read-cells}
 use Rattle.chip.proofs.Effects.{effect-is}
 use Rattle.chip.proofs.Cases.{accepted-cycle}

@@ -1,15 +1,14 @@
 -- Time keeps the number of cells and a state in range.
-use Prim.Native.Nat.{ℕ, _+_, _-_, _≤_, _<_}
+use Prim.Native.Nat.{ℕ, _+_, _-_, _≤_}
 use mathlib.Core.Path.{_≡_, refl, sym, ap, ap₂, _∙_}
-use mathlib.Core.Bool.{Bool, true, false}
+use mathlib.Core.Bool.{true}
 use mathlib.Core.List.{List}
 use native.Mathlib.Omega.{arith}
-use borrow.Author.Tests.{ltb-true}
 use lib.Dec.{ltb}
 use lib.ListN.{length}
 use Rattle.parts.specs.Table.{rowOf}
 use Rattle.parts.specs.declared.table.Row.{Row}
-use Rattle.parts.proofs.Every.{split, unless}
+use Rattle.parts.proofs.Every.{split}
 use Rattle.chip.specs.declared.device.Operation.{Operation}
 use Rattle.chip.specs.declared.device.Device.{Device}
 use Rattle.chip.specs.declared.cycle.Cycle.{Cycle}
@@ -19,7 +18,7 @@ use Rattle.chip.specs.Operation.{cellsOf, completeOn, cutOn, finished, s
 use Rattle.chip.specs.Cycle.{Chip, chip, Outcome, withLeft, settledOf, readOf, actionRefusal, cycleRefusal, actedOf, acceptedOf, cycleOf}
 use Rattle.chip.specs.Sized.{Sized, Runs}
 use Rattle.chip.proofs.Over.{over-length}
-use Rattle.chip.proofs.Accepted.{Accepted, accepted, Valid, pending, valid-range, sized, runs}
+use Rattle.chip.proofs.Accepted.{accepted, Valid, pending, valid-range, sized, runs}
 
 module _ (r : Row) (o : Operation) (cells : List ℕ) (h : cellsOf r o .first + cellsOf r o .count ≤ length cells) where
   pub complete-length : length (completeOn r o cells) ≡ length cells

@@ -1,10 +1,10 @@
 -- The trace law: without a cut, a list of bus cycles leaves what the operations that it starts leave, performed in order.
-use Prim.Native.Nat.{ℕ, _+_, _-_, _≤_, _<_}
+use Prim.Native.Nat.{ℕ, _+_, _-_, _<_}
 use mathlib.Core.Path.{_≡_, refl, sym, ap, _∙_}
-use mathlib.Core.Bool.{Bool, true, false, not}
+use mathlib.Core.Bool.{Bool, true, false}
 use mathlib.Core.List.{List, [], _∷_, _++_}
 use native.Mathlib.Omega.{arith}
-use borrow.Author.Tests.{ltb-true, lt-ltb, eqb-true, eqb-false}
+use borrow.Author.Tests.{ltb-true, lt-ltb}
 use lib.Dec.{eqb, ltb}
 use lib.ListN.{length}
 use Rattle.parts.specs.Pick.{pick}
@@ -16,10 +16,10 @@ use Rattle.chip.specs.declared.device.Device.{Device}
 use Rattle.chip.specs.declared.cycle.Action.{Action}
 use Rattle.chip.specs.declared.cycle.Action.the-variants.{Read, Write, Idle, Cut}
 use Rattle.chip.specs.declared.cycle.Cycle.{Cycle}
-use Rattle.chip.specs.Device.{operation, device, busy, idle}
+use Rattle.chip.specs.Device.{device, busy, idle}
 use Rattle.chip.specs.Operation.{cellsOf, completeOn}
 use Rattle.chip.specs.Sequence.{writtenOf}
-use Rattle.chip.specs.Cycle.{Chip, chip, Outcome, outcome, withLeft, settledOf, toggled, readOf, writeOf, cutOf, actedOf, cycleRefusal, acceptedOf, cycleOf}
+use Rattle.chip.specs.Cycle.{Chip, chip, Outcome, settledOf, readOf, writeOf, actedOf, cycleRefusal, acceptedOf, cycleOf}
 use Rattle.chip.specs.Trace.{leaves, after, play, startedBy, startedIn, perform, uncutAction, uncut}
 
 -- the cells as they will be once the operation that is pending has completed

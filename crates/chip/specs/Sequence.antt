@@ -6,7 +6,6 @@ use lib.Dec.{eqb, ltb}
 use Rattle.parts.specs.Pick.{pick}
 use Rattle.parts.specs.Span.{hasBlocks, holdsb, protectedOf}
 use Rattle.parts.specs.Time.{timeOf}
-use Rattle.parts.specs.declared.span.Span.{Span}
 use Rattle.parts.specs.declared.table.Row.{Row}
 use Rattle.chip.specs.declared.device.Mode.the-variants.{ReadMode, Identification}
 use Rattle.chip.specs.declared.device.Device.{Device}

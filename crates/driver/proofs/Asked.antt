@@ -1,7 +1,7 @@
 -- What a command, and a driver's start, that is not refused says of what was asked.
-use Prim.Native.Nat.{ℕ, suc, _≤_, _<_}
+use Prim.Native.Nat.{ℕ, _≤_, _<_}
 use mathlib.Core.Path.{_≡_, refl}
-use mathlib.Core.Bool.{Bool, true, false}
+use mathlib.Core.Bool.{true}
 use native.Mathlib.Omega.{arith}
 use borrow.Author.Tests.{ltb-true, ltb-false, lt-ltb, le-ltb, eqb-true, eqb-false, eq-eqb, ne-eqb}
 use lib.Dec.{eqb, ltb}
@@ -11,23 +11,8 @@ use Rattle.parts.specs.Table.{rowOf, partRefusal}
 use Rattle.parts.specs.Time.{hasCommand}
 use Rattle.parts.specs.declared.table.Row.{Row}
 use Rattle.parts.proofs.Every.{split}
-use Rattle.chip.proofs.Accepted.{zero-left}
+use Rattle.parts.proofs.Refused.{zero-left, zero-right, none-first}
 use Rattle.driver.specs.Refusals.{dataRefusal, targetRefusal, commandRefusal, startRefusal}
-
--- a choice that is 0 where one branch is not
-zero-right : (b : Bool) (k x : ℕ) → pick b (suc k) x ≡ 0 → (b ≡ false) × (x ≡ 0)
-zero-right true k x e = absurd (omega arith)
-zero-right false k x e = (refl, e)
-
--- a refusal in front
-none-first : (x y : ℕ) → pick (ltb 0 x) x y ≡ 0 → (x ≡ 0) × (y ≡ 0)
-none-first x y = split (λ (n : ℕ). n ≡ 0 → (x ≡ 0) × (y ≡ 0)) (ltb 0 x) x y (λ l e. absurd (no (ltb-true 0 x l) e)) (λ l e. (zero (ltb-false 0 x l), e))
-  where
-    no : 0 < x → x ≡ 0 → ⊥
-    no h e = omega arith
-
-    zero : x ≤ 0 → x ≡ 0
-    zero h = omega arith
 
 -- ---- what is asked of a row
 pub record Target (r : Row) (command a x : ℕ) : Type 0 where

@@ -15,31 +15,26 @@ use Rattle.parts.specs.Table.{rowOf, partRefusal}
 use Rattle.parts.specs.Span.{hasBlocks}
 use Rattle.parts.specs.Time.{hasCommand, timeOf}
 use Rattle.parts.specs.declared.table.Row.{Row}
-use Rattle.parts.proofs.Every.{apart, unless, split}
+use Rattle.parts.proofs.Every.{unless, split}
 use Rattle.parts.proofs.Values.{lt-fits}
 use Rattle.parts.proofs.Sound.{width-least, time-some, codes-differ, sector-not-chip, block-not-chip, sector-byte, block-byte, u1-compared, u2-compared, compared-cells}
 use Rattle.chip.specs.declared.device.Mode.{Mode}
-use Rattle.chip.specs.declared.device.Mode.the-variants.{ReadMode, Identification}
+use Rattle.chip.specs.declared.device.Mode.the-variants.{ReadMode}
 use Rattle.chip.specs.declared.device.Operation.{Operation}
 use Rattle.chip.specs.declared.device.Device.{Device}
 use Rattle.chip.specs.declared.sequence.Effect.the-variants.{Goes, Starts}
 use Rattle.chip.specs.declared.cycle.Action.the-variants.{Write as Writes}
 use Rattle.chip.specs.declared.cycle.Cycle.{Cycle}
-use Rattle.chip.specs.Device.{operation, device, busy, reads, inRange, idle}
+use Rattle.chip.specs.Device.{operation, device, busy, inRange, idle}
 use Rattle.chip.specs.Sequence.{effectOf, ignored, started, writtenOf}
 use Rattle.chip.specs.Cycle.{Chip, chip, actionRefusal}
 use Rattle.chip.specs.Trace.{after, play, startedBy, startedIn}
-use Rattle.chip.proofs.Accepted.{accepting}
+use Rattle.chip.proofs.Accepted.{accepting, read-mode}
 use Rattle.chip.proofs.Cases.{rests, write-rest}
 use Rattle.driver.specs.declared.writes.Write.{Write}
 use Rattle.driver.specs.Writes.{lastWrite, writesOf}
 use Rattle.driver.specs.Talk.{cycle, writeCycle, writeCycles, operationOf}
 use Rattle.driver.proofs.Asked.{Target}
-
--- an idle device
-read-mode : (m : Mode) → reads m ≡ true → m ≡ ReadMode
-read-mode ReadMode e = refl
-read-mode Identification e = apart e
 
 pub idle-is : (d : Device) → idle d ≡ true → (d ≡ device ReadMode 0 (d .running)) × (ltb 0 (d .running .left) ≡ false)
 unfolding idle

@@ -3,16 +3,16 @@ use Prim.Native.Nat.{ℕ, zero, suc, _+_, _-_, _*_, _/_, _%_, _≤_, _<_}
 use mathlib.Core.Path.{_≡_, refl, sym, ap, _∙_}
 use mathlib.Core.Bool.{Bool, true, false}
 use mathlib.Core.List.{List, [], _∷_, _++_, map}
-use native.Mathlib.Nat.{le-refl, not-suc-le-zero, le-of-suc-le-suc, add-mod-right, zero-mul, suc-mul, div-add-mod'}
+use native.Mathlib.Nat.{le-refl, not-suc-le-zero, add-mod-right, zero-mul, suc-mul, div-add-mod'}
 use native.Mathlib.Omega.{arith}
 use borrow.Author.Tests.{eqb-true, ltb-true, ltb-false}
 use lib.Dec.{eqb, ltb}
-use lib.ListN.{length, getD, take, drop, replicate, length-set, length-drop, length-map, List·getD-append}
+use lib.ListN.{length, getD, take, drop, replicate, length-set, length-drop, List·getD-append}
 use lib.Seq.{length-take-le, getD-take, getD-drop, getD-set-other}
-use lib.Bits.{bitAnd, and-comm, and-mask}
+use lib.Bits.{bitAnd}
 use Rattle.parts.specs.Pick.{pick}
 use Rattle.parts.specs.Width.{valueOf, blankOf, fitsIn, sectorSize}
-use Rattle.parts.proofs.Values.{value-same, value-blank, fits-lt}
+use Rattle.parts.proofs.Values.{value-blank, blank-and}
 use Rattle.parts.specs.Table.{rowOf}
 use Rattle.parts.specs.Time.{pollsOf}
 use Rattle.parts.specs.declared.table.Row.{Row}
@@ -36,7 +36,7 @@ use Rattle.job.specs.Run.{Sent, World, world, noneSent, playOf}
 use Rattle.job.specs.Sent.{operated, scanRead, scans, fills, looks, sectorSent, sectorsSent, sentOf}
 use Rattle.job.proofs.Rest.{chipOf, talk-stops, talk-goes}
 use Rattle.job.proofs.Right.{Right, program-starts, erase-starts, fit-at}
-use Rattle.job.proofs.Clears.{clears, none-rises}
+use Rattle.job.proofs.Clears.{cleared}
 use Rattle.job.proofs.Left.{program-leaves, erase-length, erase-drop, erase-at, erase-leaves}
 use Rattle.job.proofs.Sectors.{Ready, Read-on, reads-on}
 use Rattle.invoice.specs.Started.{cyclesIn}
@@ -309,19 +309,7 @@ module _ (j : Job) (image : List ℕ) (R : Right j image) where
   module _ (a : ℕ) (l v : List ℕ) (aligned : a % j .size ≡ 0) (ln : length l ≡ j .size) (lv : length v ≡ j .size) (some : 0 < j .size)
       (fit : (i : ℕ) → i < length v → fitsIn (r .width) (getD v i 0) ≡ true) (m : Along a v) (room : a + j .size ≤ r .cells) where
     clear-cells : (w : World) → SameAs l w a (j .size) → rises (r .width) (map value l) v ≡ false → Each Clear w a v
-    clear-cells w s e = λ i h.
-        let o : getD (map value l) i 0 ≡ value (at w (a + i)) = value-at l i (omega arith) ∙ ap value (s i (omega arith)) in
-        clears (r .width) (value (at w (a + i))) (getD v i 0) (fits-lt (r .width) (getD v i 0) (fit i h))
-        (rw o at (none-rises (r .width) (map value l) v i (rw (length-map l value) (omega arith)) h e))
-      where
-        value-at : (l : List ℕ) (k : ℕ) → k < length l → getD (map value l) k 0 ≡ value (getD l k 0)
-        value-at [] k h = absurd (not-suc-le-zero h)
-        value-at (y ∷ l) zero h = refl
-        value-at (y ∷ l) (suc k) h = value-at l k (le-of-suc-le-suc h)
-
-    blank-clears : (i : ℕ) → i < length v → bitAnd (blankOf (r .width)) (getD v i 0) ≡ getD v i 0
-    blank-clears i h =
-        and-comm (blankOf (r .width)) (getD v i 0) ∙ (and-mask (getD v i 0) (r .width) ∙ value-same (r .width) (getD v i 0) (fits-lt (r .width) (getD v i 0) (fit i h)))
+    clear-cells w s e = λ i h. rw (s i (omega arith)) at (cleared (r .width) l v i e (omega arith) h (fit i h))
 
     -- what is done after the scan
     abbrev rest : Bool → List Sent
@@ -335,7 +323,7 @@ module _ (j : Job) (image : List ℕ) (R : Right j image) where
         let L = operated j 1 a 0 in
         let o = operationOf r 1 a 0 ∷ [] in
         let q = erased a (getD v 0 0) w (let z : a + 0 ≡ a = omega arith in rw z at (m 0 (omega arith))) aligned room g in
-        let h = filled a v (after-all w L) (q .ready) m (λ i n. (q .blank i (omega arith), blank-clears i n)) in
+        let h = filled a v (after-all w L) (q .ready) m (λ i n. (q .blank i (omega arith), blank-and (r .width) (getD v i 0) (fit i n))) in
         let e = play-append (j .part) w L (fills j a v) in
         record {
           ready = rw e (h .ready);

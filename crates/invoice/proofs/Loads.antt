@@ -1,6 +1,6 @@
 -- What `load` hands back, reckoned from the job's operations alone: no cycle is played. By it the marked jobs are computed.
 use Prim.Native.Nat.{ℕ, zero, suc, _+_, _-_, _*_, _/_}
-use mathlib.Core.Path.{_≡_, refl, sym, ap, ap₂, _∙_}
+use mathlib.Core.Path.{_≡_, refl, ap, _∙_}
 use mathlib.Core.Bool.{Bool, true, false}
 use mathlib.Core.List.{List, [], _∷_, _++_}
 use native.Mathlib.Omega.{arith}
@@ -13,13 +13,13 @@ use Rattle.parts.proofs.Ranges.{sector-some}
 use Rattle.chip.specs.declared.device.Operation.{Operation}
 use Rattle.chip.specs.Device.{freshDevice, busy}
 use Rattle.chip.specs.Cycle.{Chip, chip}
-use Rattle.chip.specs.Trace.{play, startedIn, perform}
+use Rattle.chip.specs.Trace.{play, perform}
 use Rattle.chip.proofs.Trace.{trace}
 use Rattle.job.specs.declared.loader.Job.{Job}
 use Rattle.job.specs.declared.run.Tally.{Tally}
 use Rattle.job.specs.Total.{sumOf}
 use Rattle.job.specs.Refusal.{fitAll, jobRefusal}
-use Rattle.job.specs.Run.{World, world, noneSent, tally}
+use Rattle.job.specs.Run.{world, noneSent, tally}
 use Rattle.job.specs.Sent.{sentOf}
 use Rattle.job.specs.Formulas.{tallyOf, N}
 use Rattle.job.specs.Bill.{jobOf, billOf, playedAll, Loaded, loadOf}

@@ -1,39 +1,24 @@
 -- A job that is not refused is a right one.
-use Prim.Native.Nat.{ℕ, suc, _+_, _%_, _≤_, _<_}
+use Prim.Native.Nat.{ℕ, _+_, _%_, _≤_, _<_}
 use mathlib.Core.Path.{_≡_, refl, sym}
 use mathlib.Core.Bool.{Bool, true, false}
 use mathlib.Core.List.{List}
 use native.Mathlib.Omega.{arith}
-use borrow.Author.Tests.{ltb-true, ltb-false, leb-true, eqb-true, eqb-false, lt-ltb, ne-eqb}
-use lib.Dec.{eqb, ltb}
+use borrow.Author.Tests.{ltb-false, leb-true, eqb-true, eqb-false, lt-ltb, ne-eqb}
+use lib.Dec.{eqb}
 use lib.ListN.{length}
-use Rattle.parts.specs.Pick.{pick}
 use Rattle.parts.specs.Width.{sectorSize}
 use Rattle.parts.specs.Table.{rowOf}
 use Rattle.parts.specs.Span.{holdsb, protectedOf}
 use Rattle.parts.specs.declared.span.Span.{Span}
 use Rattle.parts.specs.declared.table.Row.{Row}
 use Rattle.parts.proofs.Every.{apart, split}
+use Rattle.parts.proofs.Refused.{zero-left, zero-right, none-first}
 use Rattle.parts.proofs.Ranges.{holds-bounds}
 use Rattle.chip.specs.Sequence.{ignored}
-use Rattle.chip.proofs.Accepted.{zero-left}
 use Rattle.job.specs.Refusal.{meets, protectionRefusal, rangeRefusal, jobRefusal}
 use Rattle.job.specs.Bill.{jobOf}
 use Rattle.job.proofs.Right.{Right}
-
--- a refusal that does not come, and what is left
-passes : (b : Bool) (k x : ℕ) → pick b (suc k) x ≡ 0 → (b ≡ false) × (x ≡ 0)
-passes true k x e = absurd (omega arith)
-passes false k x e = (refl, e)
-
-none-first : (x y : ℕ) → pick (ltb 0 x) x y ≡ 0 → (x ≡ 0) × (y ≡ 0)
-none-first x y = split (λ (n : ℕ). n ≡ 0 → (x ≡ 0) × (y ≡ 0)) (ltb 0 x) x y (λ l e. absurd (some (ltb-true 0 x l) e)) (λ l e. (none (ltb-false 0 x l), e))
-  where
-    some : 0 < x → x ≡ 0 → ⊥
-    some h e = omega arith
-
-    none : x ≤ 0 → x ≡ 0
-    none h = omega arith
 
 -- a range that holds none of a span's cells: no address of it is in the span
 apart-from : (s : Span) (first count a : ℕ) → meets s first count ≡ false → first ≤ a → a < first + count → holdsb s a ≡ false
@@ -52,7 +37,7 @@ unprotected : (r : Row) (first count : ℕ) (wp : Bool) → protectionRefusal r 
 unfolding protectionRefusal ignored
 unprotected r first count true e command a c l h = refl
 unprotected r first count false e command a c l h =
-    rw (ne-eqb command 3 (λ z. omega arith)) (apart-from (protectedOf r) first count a (passes (meets (protectedOf r) first count) 8 0 e .0) l h)
+    rw (ne-eqb command 3 (λ z. omega arith)) (apart-from (protectedOf r) first count a (zero-right (meets (protectedOf r) first count) 8 0 e .0) l h)
 
 pub sector-most : (w : ℕ) → sectorSize w ≤ 4096
 unfolding sectorSize
@@ -68,10 +53,10 @@ unfolding jobRefusal rangeRefusal
 passed part lent first image wp p e =
     let a = none-first _ _ e in
     let b = zero-left _ _ 1 (a .1) in
-    let c = passes _ 9 _ (b .1) in
-    let d = passes _ 9 _ (c .1) in
-    let f = passes _ 5 _ (d .1) in
-    let g = passes _ 5 _ (f .1) in
+    let c = zero-right _ 9 _ (b .1) in
+    let d = zero-right _ 9 _ (c .1) in
+    let f = zero-right _ 5 _ (d .1) in
+    let g = zero-right _ 5 _ (f .1) in
     let h = zero-left _ _ 6 (g .1) in
     let i = zero-left _ _ 7 (h .1) in
     let some : p ≡ 0 → ⊥ = eqb-false _ _ (c .0) in

@@ -1,14 +1,16 @@
 -- Where no bit must rise, AND with the new value leaves it.
 use mathlib.Core.Path.{_≡_, refl, sym, ap, _∙_}
 use mathlib.Core.Bool.{Bool, true, false}
-use mathlib.Core.List.{List, [], _∷_}
+use mathlib.Core.List.{List, [], _∷_, map}
 use Prim.Native.Nat.{ℕ, zero, suc, _/_, _%_, _^_, _<_, min}
 use native.Mathlib.Nat.{not-suc-le-zero, le-of-suc-le-suc, pow-suc}
 use native.Mathlib.Omega.{arith}
 use lib.Dec.{eqb}
-use lib.ListN.{length, getD}
+use lib.ListN.{length, getD, length-map}
 use lib.Bits.{bitAnd, and-step, and-zero-r}
 use Rattle.parts.specs.Pick.{pick}
+use Rattle.parts.specs.Width.{valueOf, fitsIn}
+use Rattle.parts.proofs.Values.{fits-lt}
 use Rattle.parts.proofs.Every.{apart}
 use Rattle.job.specs.Search.{bitRises, rises}
 
@@ -49,3 +51,15 @@ none-rises w (o ∷ os) (n ∷ ns) (suc i) h k e = none-rises w os ns i (le-of-s
     later : (b : Bool) → pick b true (rises w os ns) ≡ false → rises w os ns ≡ false
     later true q = apart (sym q)
     later false q = q
+
+-- so where no cell of l has a bit that must rise, AND with the new value leaves it at each place
+pub cleared : (w : ℕ) (l v : List ℕ) (i : ℕ) → rises w (map (valueOf w) l) v ≡ false → i < length l → i < length v → fitsIn w (getD v i 0) ≡ true
+    → bitAnd (valueOf w (getD l i 0)) (getD v i 0) ≡ getD v i 0
+cleared w l v i e hl hv f =
+    clears w (valueOf w (getD l i 0)) (getD v i 0) (fits-lt w (getD v i 0) f)
+    (rw (value-at l i hl) at (none-rises w (map (valueOf w) l) v i (rw (length-map l (valueOf w)) hl) hv e))
+  where
+    value-at : (l : List ℕ) (k : ℕ) → k < length l → getD (map (valueOf w) l) k 0 ≡ valueOf w (getD l k 0)
+    value-at [] k h = absurd (not-suc-le-zero h)
+    value-at (y ∷ l) zero h = refl
+    value-at (y ∷ l) (suc k) h = value-at l k (le-of-suc-le-suc h)

@@ -3,17 +3,17 @@ use Prim.Native.Nat.{ℕ, zero, suc, _+_, _-_, _*_, _%_, _≤_, _<_}
 use mathlib.Core.Path.{_≡_, refl, sym, ap, ap₂, _∙_}
 use mathlib.Core.Bool.{Bool, true, false}
 use mathlib.Core.List.{List, [], _∷_, _++_, map, append-assoc}
-use native.Mathlib.Nat.{le-refl, not-suc-le-zero, le-of-suc-le-suc, add-mod, add-mod-right, zero-mod, zero-mul, suc-mul}
+use native.Mathlib.Nat.{le-refl, add-mod, add-mod-right, zero-mod, zero-mul, suc-mul}
 use native.Mathlib.Numerals.{add-one}
 use native.Mathlib.Omega.{arith}
 use borrow.Author.Tests.{lt-ltb, le-ltb, eq-eqb, ne-eqb, eqb-true, eqb-false}
 use lib.Dec.{eqb}
-use lib.ListN.{length, getD, set, take, drop, length-set, length-drop, length-map}
+use lib.ListN.{length, getD, set, take, drop, length-set, length-drop}
 use lib.Seq.{take-suc, take-suc-set, getD-take, getD-drop, getD-set-other, drop-set-lt, drop-cons, drop-drop}
-use lib.Bits.{bitAnd, and-comm, and-mask}
+use lib.Bits.{bitAnd}
 use Rattle.parts.specs.Pick.{pick}
 use Rattle.parts.specs.Width.{valueOf, blankOf, fitsIn, sectorSize}
-use Rattle.parts.proofs.Values.{value-same, value-blank, fits-lt}
+use Rattle.parts.proofs.Values.{value-blank, blank-and}
 use Rattle.parts.specs.Table.{rowOf}
 use Rattle.parts.specs.declared.table.Row.{Row}
 use Rattle.chip.specs.declared.cycle.Action.the-variants.{Read}
@@ -37,7 +37,7 @@ use Rattle.job.specs.Sent.{operated, scanRead, scans, fills, looks, sect
 use Rattle.job.proofs.Within.{sector-in}
 use Rattle.job.proofs.Right.{Right, program-starts, erase-starts, fit-at}
 use Rattle.job.proofs.Turns.{part-length}
-use Rattle.job.proofs.Clears.{clears, none-rises}
+use Rattle.job.proofs.Clears.{cleared}
 use Rattle.job.proofs.Left.{program-leaves, erase-length, erase-drop, erase-at}
 use Rattle.job.proofs.Operates.{operates}
 use Rattle.job.proofs.Rest.{Rest, rest-none, rest-is, rest-more}
@@ -186,8 +186,7 @@ module _ (j : Job) (image : List ℕ) (R : Right j image) where
     fits-at i h = rw (R .row) (fit-at (r .width) image (R .fits) (base + i) (omega (arith, R .count, inside)))
 
     blank-clears : (i : ℕ) → i < j .size → bitAnd (blankOf (j .row .width)) (imageAt i) ≡ imageAt i
-    blank-clears i h =
-        and-comm (blankOf (j .row .width)) (imageAt i) ∙ (and-mask (imageAt i) (j .row .width) ∙ value-same (j .row .width) (imageAt i) (fits-lt (j .row .width) (imageAt i) (fits-at i h)))
+    blank-clears i h = blank-and (j .row .width) (imageAt i) (fits-at i h)
 
     -- the next mark: past the end, past a blank value, or here
     mark-end : (i : ℕ) → i ≡ j .size → nextMark j image base i ≡ i
@@ -329,17 +328,9 @@ module _ (j : Job) (image : List ℕ) (R : Right j image) where
     clear-all cells whole e = λ k le lt.
         let ln : length (take (j .size) (drop a cells)) ≡ j .size = part-length cells a (j .size) (omega (arith, R .range)) in
         let lm : length (take (j .size) (drop base image)) ≡ j .size = part-length image base (j .size) (omega (arith, R .count)) in
-        let hn : k < length (map value (take (j .size) (drop a cells))) = rw (length-map (take (j .size) (drop a cells)) value, ln) lt in
-        let o : getD (map value (take (j .size) (drop a cells))) k 0 ≡ value (getD cells (a + k) 0) =
-        value-at (take (j .size) (drop a cells)) k (rw ln lt) ∙ ap value (getD-take (j .size) (drop a cells) k 0 lt ∙ getD-drop a cells k 0) in
+        let o : getD (take (j .size) (drop a cells)) k 0 ≡ getD cells (a + k) 0 = getD-take (j .size) (drop a cells) k 0 lt ∙ getD-drop a cells k 0 in
         let x : getD (take (j .size) (drop base image)) k 0 ≡ imageAt k = getD-take (j .size) (drop base image) k 0 lt ∙ getD-drop base image k 0 in
-        clears (j .row .width) (value (getD cells (a + k) 0)) (imageAt k) (fits-lt (j .row .width) (imageAt k) (fits-at k lt))
-        (rw (o, x) at (none-rises (j .row .width) (map value (take (j .size) (drop a cells))) (take (j .size) (drop base image)) k hn (rw lm lt) e))
-      where
-        value-at : (l : List ℕ) (k : ℕ) → k < length l → getD (map value l) k 0 ≡ value (getD l k 0)
-        value-at [] k h = absurd (not-suc-le-zero h)
-        value-at (y ∷ l) zero h = refl
-        value-at (y ∷ l) (suc k) h = value-at l k (le-of-suc-le-suc h)
+        rw (o, x) at (cleared (j .row .width) (take (j .size) (drop a cells)) (take (j .size) (drop base image)) k e (rw ln lt) (rw lm lt) (rw x (fits-at k lt)))
 
     module _ (multiple : base % j .size ≡ 0) where
       aligned : a % sectorSize (r .width) ≡ 0

@@ -12,7 +12,7 @@ use Rattle.parts.specs.Pick.{pick}
 use Rattle.parts.specs.Width.{blankOf, valueOf}
 use Rattle.parts.proofs.Values.{value-value}
 use Rattle.parts.proofs.Every.{split}
-use Rattle.least.specs.Operations.{Op, Program, Erase, programmed, blanks, erased, perform, performAll, costAll}
+use Rattle.least.specs.Operations.{Op, Program, programmed, blanks, erased, perform, performAll, costAll}
 use Rattle.least.specs.LeastTime.{differs, rises, rising, differing, sectorTime, sectorsTime}
 use Rattle.least.specs.Job.{programs, sectorOps, sectorsOps, jobOps, afterJob, liveOps}
 use Rattle.least.proofs.Lists.{drop-next, map-same}

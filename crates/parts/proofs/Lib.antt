@@ -1,5 +1,6 @@
 pub mod Rules
 pub mod Every
+pub mod Refused
 pub mod Values
 pub mod Rounding
 pub mod Sound

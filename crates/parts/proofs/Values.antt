@@ -65,3 +65,7 @@ fits-word w x h = by (leb 16 w) refl
         let top : valueOf 16 (blankOf w) ≡ 65535 = sym (value-ones w) ∙ value-wide w 65535 wide (omega arith) in
         rw (top, le-leb x 65535 (omega arith), le-leb x (blankOf w) (omega (arith, pow-mono wide)))
     by false e = let narrow = leb-false 16 w e in rw (blank-word w (omega arith))
+
+-- blank AND a word that fits is that word
+pub blank-and : (w x : ℕ) → fitsIn w x ≡ true → bitAnd (blankOf w) x ≡ x
+blank-and w x f = and-comm (blankOf w) x ∙ (and-mask x w ∙ value-same w x (fits-lt w x f))
