@@ -1,12 +1,12 @@
 -- The marked cases hold: one computed test over the list. The number of lent cells is not counted anew in each cycle, and a job is reckoned from its
 -- operations without playing its cycles; laws allow both.
 use Prim.Native.Nat.{ℕ}
-use mathlib.Core.Path.{_≡_, refl, sym, ap, _∙_}
+use mathlib.Core.Path.{_≡_, refl, ap, _∙_}
 use mathlib.Core.Bool.{Bool, true, false}
 use mathlib.Core.List.{List, [], _∷_}
 use borrow.Author.Tests.{eqb-true}
 use lib.Dec.{eqb}
-use lib.ListN.{length, set, replicate, length-set, length-replicate}
+use lib.ListN.{length, replicate, length-set, length-replicate}
 use Rattle.parts.specs.Pick.{pick}
 use Rattle.parts.specs.Width.{fitsIn, sectorSize}
 use Rattle.parts.specs.Table.{rowOf, partRefusal}

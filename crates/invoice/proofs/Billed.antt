@@ -63,6 +63,9 @@ module _ (part : ℕ) (cells : List ℕ) (first : ℕ) (image : List ℕ) (wp : 
         programs = rw (t, s .begun) (s .programs);
         blocks = rw (s .begun) (s .blocks);
         chips = rw (s .begun) (s .chips);
+        polled = rw t (s .polls);
+        read = rw t (s .reads);
+        timed = rw t (s .time);
       })
 
   -- no list of bus cycles that also loads the image starts operations whose table times add up to less than those of the operations that the job starts

@@ -16,11 +16,15 @@ use Rattle.chip.specs.Trace.{play, startedIn, uncut as uncutAll}
 use Rattle.job.specs.Total.{sumOf}
 use Rattle.job.specs.Sent.{sentOf}
 use Rattle.job.specs.Bill.{jobOf, playedAll, Loaded}
-use Rattle.invoice.specs.Started.{cyclesIn, many}
+use Rattle.invoice.specs.Started.{cyclesIn, sumIn, aPoll, aRead, theTime, many}
 
--- the operations that the job's cycles start, from a fresh device on
+-- the job's bus cycles
+abbrev pub sentCycles : ℕ → List ℕ → ℕ → List ℕ → Bool → ℕ → List Cycle
+sentCycles part cells first image wp p = cyclesIn (sentOf (jobOf part first (length image) wp p) image cells)
+
+-- the operations that they start, from a fresh device on
 abbrev pub started : ℕ → List ℕ → ℕ → List ℕ → Bool → ℕ → List Operation
-started part cells first image wp p = startedIn part (chip cells freshDevice) (cyclesIn (sentOf (jobOf part first (length image) wp p) image cells))
+started part cells first image wp p = startedIn part (chip cells freshDevice) (sentCycles part cells first image wp p)
 
 -- what is said of the cells and the bill that a job came to
 pub record Invoice (part : ℕ) (cells : List ℕ) (first : ℕ) (image : List ℕ) (wp : Bool) (p : ℕ) (l : Loaded) : Type 0 where
@@ -34,6 +38,10 @@ pub record Invoice (part : ℕ) (cells : List ℕ) (first : ℕ) (image : List �
   pub programs : l .bill .programs ≡ many 0 (started part cells first image wp p)
   pub blocks : many 2 (started part cells first image wp p) ≡ 0
   pub chips : many 3 (started part cells first image wp p) ≡ 0
+  -- the polls, the scans and confirming reads, and the time are those of the cycles sent
+  pub polled : l .bill .polls ≡ sumIn aPoll (sentCycles part cells first image wp p)
+  pub read : l .bill .scans + l .bill .confirms ≡ sumIn aRead (sentCycles part cells first image wp p)
+  pub timed : l .bill .spent ≡ sumIn theTime (sentCycles part cells first image wp p)
   -- polls = sum of N over operations; spent = polls times p; confirms = erases + programs
   pub polls : l .bill .polls ≡ l .bill .erases * pollsOf (rowOf part) 1 p + l .bill .programs * pollsOf (rowOf part) 0 p
   pub spent : l .bill .spent ≡ l .bill .polls * p

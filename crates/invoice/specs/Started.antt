@@ -1,4 +1,4 @@
--- Of the operations that sent cycles start: how many are of a kind, and their table times added up.
+-- Of sent cycles: their polls, reads and µs; and of the operations that they start, how many are of a kind, and their table times added up.
 use Prim.Native.Nat.{ℕ, _+_}
 use mathlib.Core.List.{List, [], _∷_, map}
 use lib.Dec.{eqb}
@@ -6,12 +6,36 @@ use Rattle.parts.specs.Pick.{pick}
 use Rattle.parts.specs.Time.{timeOf}
 use Rattle.parts.specs.declared.table.Row.{Row}
 use Rattle.chip.specs.declared.device.Operation.{Operation}
+use Rattle.chip.specs.declared.cycle.Action.{Action}
+use Rattle.chip.specs.declared.cycle.Action.the-variants.{Read, Write, Idle, Cut}
 use Rattle.chip.specs.declared.cycle.Cycle.{Cycle}
+use Rattle.driver.specs.Talk.{isPoll}
 use Rattle.job.specs.Run.{Sent}
 
 -- the bus cycles of a list of sent ones, without their purposes
 abbrev pub cyclesIn : List Sent → List Cycle
 cyclesIn L = map (λ (s : Sent). s .cycle) L
+
+-- a number of each cycle, added up
+abbrev pub sumIn : (Cycle → ℕ) → List Cycle → ℕ
+sumIn f [] = 0
+sumIn f (c ∷ cs) = f c + sumIn f cs
+
+-- 1 for a poll, that is a read after some µs; 1 for a read at 0 µs, that is a scan or a confirming read; the µs
+abbrev pub aPoll : Cycle → ℕ
+aPoll c = isPoll (c .action) (c .elapsed)
+
+abbrev pub isRead : Action → ℕ
+isRead (Read a) = 1
+isRead (Write a x) = 0
+isRead Idle = 0
+isRead (Cut x) = 0
+
+abbrev pub aRead : Cycle → ℕ
+aRead c = pick (eqb (c .elapsed) 0) (isRead (c .action)) 0
+
+abbrev pub theTime : Cycle → ℕ
+theTime c = c .elapsed
 
 -- how many are of kind k: 0 program, 1 sector erase, 2 block erase, 3 chip erase
 abbrev pub many : ℕ → List Operation → ℕ
