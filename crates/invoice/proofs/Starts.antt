@@ -169,7 +169,6 @@ module _ (part : ℕ) (w : World) where
         reads = ap (λ (t : Tally). t .scans + t .confirms) (tally-append L M) ∙ omega (arith, sums aRead, s .reads, t .reads);
         time = ap (λ (t : Tally). t .time) (tally-append L M) ∙ omega (arith, sums theTime, s .time, t .time);
       }
-
     where
       sums : (f : Cycle → ℕ) → sumIn f (cyclesIn (L ++ M)) ≡ sumIn f (cyclesIn L) + sumIn f (cyclesIn M)
       sums f = ap (sumIn f) (cycles-append L M) ∙ sum-append f (cyclesIn L) (cyclesIn M)
