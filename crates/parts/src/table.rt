@@ -35,64 +35,66 @@ pub struct Found {
     pub row: Row,
 }
 
-// The part table, a line a part.
-// 0 (house)
+// The table, a line a part.
+
+// 0 bench (house)
 const BENCH: Line = Line {
     columns: [16, 8192, 4096, 0xfff0, 14, 18000, 70000],
     beside: [0x555, 0x2aa, 2048, 0x30, 0x50, 1],
 };
-// 1
+// 1 SF010A
 const SF010A: Line = Line {
     columns: [8, 131072, 0, 0xb5, 14, 18000, 70000],
     beside: [0x5555, 0x2aaa, 32768, 0x30, 0x50, 0],
 };
-// 2
+// 2 SF020A
 const SF020A: Line = Line {
     columns: [8, 262144, 0, 0xb6, 14, 18000, 70000],
     beside: [0x5555, 0x2aaa, 32768, 0x30, 0x50, 0],
 };
-// 3
+// 3 SF040
 const SF040: Line = Line {
     columns: [8, 524288, 0, 0xb7, 14, 18000, 70000],
     beside: [0x5555, 0x2aaa, 32768, 0x30, 0x50, 0],
 };
-// 4
+// 4 VF200A
 const VF200A: Line = Line {
     columns: [16, 131072, 32768, 0x2789, 14, 18000, 70000],
     beside: [0x5555, 0x2aaa, 32768, 0x30, 0x50, 0],
 };
-// 5
+// 5 VF400A
 const VF400A: Line = Line {
     columns: [16, 262144, 32768, 0x2780, 14, 18000, 70000],
     beside: [0x5555, 0x2aaa, 32768, 0x30, 0x50, 0],
 };
-// 6
+// 6 VF800A
 const VF800A: Line = Line {
     columns: [16, 524288, 32768, 0x2781, 14, 18000, 70000],
     beside: [0x5555, 0x2aaa, 32768, 0x30, 0x50, 0],
 };
-// 7
+// 7 WF1601
 const WF1601: Line = Line {
     columns: [16, 1048576, 32768, 0x274b, 28, 36000, 140000],
     beside: [0x5555, 0x2aaa, 32768, 0x30, 0x50, 1],
 };
-// 8
+// 8 WF1602
 const WF1602: Line = Line {
     columns: [16, 1048576, 32768, 0x274a, 28, 36000, 140000],
     beside: [0x5555, 0x2aaa, 32768, 0x30, 0x50, 2],
 };
-// 9
+// 9 VF6401B
 const VF6401B: Line = Line {
     columns: [16, 4194304, 32768, 0x236d, 7, 18000, 40000],
     beside: [0x555, 0x2aa, 2048, 0x50, 0x30, 1],
 };
-// 10
+// 10 VF6402B
 const VF6402B: Line = Line {
     columns: [16, 4194304, 32768, 0x236c, 7, 18000, 40000],
     beside: [0x555, 0x2aa, 2048, 0x50, 0x30, 2],
 };
 
-// The line of a part. A match and no array: at an index known only later the compiled code would copy the whole table first.
+// The line of a part. The lines are picked by a match and stand in no array: an array that is indexed by a number known only
+// when the program runs is copied whole at each look.
 fn line_of(part: u32) -> Line
     requires { ⌜ part ≤ 10 ⌝ }
     ensures { λ r. ⌜ r ≡ lineOf part ⌝ }

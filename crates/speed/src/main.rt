@@ -1,6 +1,8 @@
 // The program `speed`: loads a random image over random cells of part 8 with a poll every 10 µs, and prints the bill's
-// counts. How long it takes is measured from outside.
+// counts. Standard input says how many words of the image; where it is empty, the whole part is loaded. How long it takes
+// is measured from outside.
 ghost use mathlib.Core.Path.{_≡_};
+ghost use Prim.Native.Nat.{_≤_};
 ghost use lib.ListN.{length};
 
 // The next of a row of random numbers below 2,147,483,648.
@@ -38,6 +40,30 @@ fn load(cells: &mut [u16], image: &[u16]) {
     line(b"sum ", b.sum as u64);
 }
 
+// The number that the digits of a text make, at most 1,048,576; that for an empty text.
+fn number(text: &[u8]) -> usize
+    ensures { λ r. ⌜ r ≤ 1048576 ⌝ }
+{
+    if text.len() == 0 {
+        return 1048576;
+    }
+    let mut n: usize = 0;
+    let mut i = 0;
+    while i < text.len() {
+        let byte = text[i];
+        if b'0' <= byte {
+            if byte <= b'9' {
+                n = n % 1048576 * 10 + (byte - b'0') as usize;
+            }
+        }
+        i += 1;
+    }
+    if 1048576 < n {
+        return 1048576;
+    }
+    n
+}
+
 // The cells of part 8. The promise is what lending them needs.
 fn part_8() -> [u16; 1048576]
     ensures { λ r. ⌜ 1048576 ≡ length r ⌝ }
@@ -45,10 +71,21 @@ fn part_8() -> [u16; 1048576]
     [0; 1048576]
 }
 
+// Loads so many words of the image.
+fn run(cells: &mut [u16], image: &[u16], count: usize) {
+    if image.len() < count {
+        return;
+    }
+    load(&mut *cells, &image[..count]);
+}
+
 fn main() {
+    let mut text = [0u8; 16];
+    let told = io::read_full(0, &mut text);
+    let count = number(&text[..told]);
     let mut cells = part_8();
     let mut image = part_8();
     scatter(&mut cells, 1);
     scatter(&mut image, 2);
-    load(&mut cells, &image);
+    run(&mut cells, &image, count);
 }

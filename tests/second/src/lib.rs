@@ -13,4 +13,5 @@ pub mod job;
 pub mod make;
 pub mod part;
 pub mod random;
+pub mod speed;
 pub mod station;

@@ -4,13 +4,11 @@ use std::fs;
 use std::io::{self, Read, Write};
 use std::path::Path;
 use std::process::ExitCode;
-use std::time::Instant;
 
 use second::bill;
 use second::events::Counts;
-use second::job::{load, Job};
 use second::make::{self, Recorded};
-use second::part::Part;
+use second::speed;
 use second::station::{replay, LARGE};
 
 const USAGE: &str = "\
@@ -20,7 +18,8 @@ count                                 print the event counts of the recorded fil
 soak KIND SEED COUNT [--expected]     print COUNT cases of a kind, or what they print
 run                                   run the cases of standard input
 job SEED                              print the raw bytes of a job file
-speed PART P                          time a job over a whole part
+speed job COUNT                       load COUNT random words on part 8, to be timed
+speed cycles COUNT                    program COUNT random words on part 8 by bare bus cycles, to be timed
 ";
 
 /// Raw job files for the program `bill`, by their seeds from 0.
@@ -37,7 +36,7 @@ fn main() -> ExitCode {
         ["soak", kind, seed, count, "--expected"] => soak(kind, seed, count, true),
         ["run"] => run_cases(),
         ["job", seed] => print_job(seed),
-        ["speed", part, p] => speed(part, p),
+        ["speed", what, count] => run_speed(what, count),
         _ => Err(format!("usage:\n{USAGE}kinds: {}", make::kinds().join(" "))),
     };
     match result {
@@ -127,26 +126,12 @@ fn print_job(seed: &str) -> Result<(), String> {
     print(&make::job_file(seed.parse().map_err(text)?))
 }
 
-/// A job over a whole part whose every sector is erased and every cell
-/// programmed.
-fn speed(part: &str, p: &str) -> Result<(), String> {
-    let (number, p) = (part.parse().map_err(text)?, p.parse().map_err(text)?);
-    let part = Part::get(number).ok_or("no such part")?;
-    let mut cells = vec![0; part.cells as usize];
-    let image: Vec<u16> = (0..part.cells).map(|at| at as u16 & 0x7F).collect();
-    let job = Job {
-        part: number,
-        first: 0,
-        image: &image,
-        wp_high: true,
-        p,
+fn run_speed(what: &str, count: &str) -> Result<(), String> {
+    let count = count.parse().map_err(text)?;
+    let printed = match what {
+        "job" => speed::job(count),
+        "cycles" => speed::cycles(count),
+        _ => return Err(format!("no speed of {what}: job or cycles")),
     };
-    let begin = Instant::now();
-    let bill = load(&job, &mut cells);
-    let seconds = begin.elapsed().as_secs_f64();
-    let writes = 6 * bill.erases + 4 * bill.programs;
-    let cycles = writes + bill.polls + bill.scans + bill.confirms;
-    println!("{bill:?}");
-    println!("{cycles} cycles in {seconds:.3} s");
-    Ok(())
+    print(printed.as_bytes())
 }
