@@ -103,13 +103,27 @@ fn part_3() -> [u16; 524288]
     [0; 524288]
 }
 
-// Case 1 on part 7: the block 0 to 32,767.
-fn case_1() {
-    let s = Socket {
-        part: 7,
+// The bench part in its socket.
+fn bench() -> Socket {
+    Socket {
+        part: 0,
+        u1: 0x555,
+        u2: 0x2aa,
+    }
+}
+
+// A part whose unlock addresses are 5555H and 2AAAH.
+fn part_in(part: u32) -> Socket {
+    Socket {
+        part,
         u1: 0x5555,
         u2: 0x2aaa,
-    };
+    }
+}
+
+// Case 1 on part 7: the block 0 to 32,767.
+fn case_1() {
+    let s = part_in(7);
     let mut cells = part_7();
     let d = unlock(s, &mut cells, chip::fresh());
     let erasing = write(s, &mut cells, d, true, 2053, 0x50);
@@ -122,11 +136,7 @@ fn case_1() {
 
 // Case 2: 0F0FH over 00F0H.
 fn case_2() {
-    let s = Socket {
-        part: 0,
-        u1: 0x555,
-        u2: 0x2aa,
-    };
+    let s = bench();
     let mut cells = [0xffffu16; 8192];
     cells[7] = 0x00f0;
     let d = arm(s, &mut cells, chip::fresh());
@@ -138,11 +148,7 @@ fn case_2() {
 
 // Case 3: part 5 at 13 and at 14 µs.
 fn case_3() {
-    let s = Socket {
-        part: 5,
-        u1: 0x5555,
-        u2: 0x2aaa,
-    };
+    let s = part_in(5);
     let mut cells = part_5();
     let d = arm(s, &mut cells, chip::fresh());
     let programming = write(s, &mut cells, d, true, 7, 0x1234);
@@ -156,11 +162,7 @@ fn case_3() {
 
 // Case 4: busy reads of part 5.
 fn case_4() {
-    let s = Socket {
-        part: 5,
-        u1: 0x5555,
-        u2: 0x2aaa,
-    };
+    let s = part_in(5);
     let mut cells = part_5();
     let d = arm(s, &mut cells, chip::fresh());
     let programming = write(s, &mut cells, d, true, 7, 0);
@@ -176,11 +178,7 @@ fn case_4() {
 
 // Case 5: a broken sequence arms nothing.
 fn case_5() {
-    let s = Socket {
-        part: 0,
-        u1: 0x555,
-        u2: 0x2aa,
-    };
+    let s = bench();
     let mut cells = [0xffffu16; 8192];
     let broken = write(s, &mut cells, chip::fresh(), true, s.u1, 0xaa);
     let d = arm(s, &mut cells, broken);
@@ -192,11 +190,7 @@ fn case_5() {
 
 // Case 7: the bench's protected block.
 fn case_7() {
-    let s = Socket {
-        part: 0,
-        u1: 0x555,
-        u2: 0x2aa,
-    };
+    let s = bench();
     let mut cells = [0xffffu16; 8192];
     let d = arm(s, &mut cells, chip::fresh());
     let low = write(s, &mut cells, d, false, 4095, 0);
@@ -208,11 +202,7 @@ fn case_7() {
 
 // Case 8: power cuts.
 fn case_8() {
-    let s = Socket {
-        part: 0,
-        u1: 0x555,
-        u2: 0x2aa,
-    };
+    let s = bench();
     let mut cells = [0x1234u16; 8192];
     let d = unlock(s, &mut cells, chip::fresh());
     let erasing = write(s, &mut cells, d, true, 7, 0x30);
@@ -228,11 +218,7 @@ fn case_8() {
 
 // Case 9: part 3 identifies.
 fn case_9() {
-    let s = Socket {
-        part: 3,
-        u1: 0x5555,
-        u2: 0x2aaa,
-    };
+    let s = part_in(3);
     let mut cells = part_3();
     let d1 = write(s, &mut cells, chip::fresh(), true, s.u1, 0xaa);
     let d2 = write(s, &mut cells, d1, true, s.u2, 0x55);
