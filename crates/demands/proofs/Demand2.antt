@@ -22,7 +22,7 @@ use Rattle.chip.specs.declared.device.Device.{Device}
 use Rattle.chip.specs.declared.device.Operation.{Operation}
 use Rattle.chip.specs.declared.cycle.Action.the-variants.{Read}
 use Rattle.chip.specs.declared.cycle.Cycle.{Cycle}
-use Rattle.chip.specs.Device.{device, idle}
+use Rattle.chip.specs.Device.{device, freshDevice, idle}
 use Rattle.chip.specs.Sequence.{ignored}
 use Rattle.chip.specs.Cycle.{Chip, chip, Outcome, cycleRefusal, settledOf, actedOf, acceptedOf, cycleOf}
 use Rattle.chip.specs.Trace.{play, startedIn}
@@ -30,10 +30,11 @@ use Rattle.chip.proofs.bus_cycle.Kinds as bus-kinds
 use Rattle.chip.proofs.bus_cycle.Reads as bus-reads
 use Rattle.driver.specs.Refusals.{commandRefusal, startRefusal}
 use Rattle.driver.specs.Writes.{write, unlock, lastWrite, writeCount, writesOf, sixPlaces, commandWrites}
-use Rattle.driver.specs.Machine.{addressOf, bitSeven, bitWanted, startOf, stepOf}
-use Rattle.driver.specs.Talk.{cycle, writeCycles, operationOf, shownAfter, Told, talk, heard}
+use Rattle.driver.specs.declared.machine.Phase.the-variants.{Polling, Done}
+use Rattle.driver.specs.Machine.{addressOf, bitSeven, bitWanted, valueWanted, begun as started-as, startOf, moved, ended, stepOf}
+use Rattle.driver.specs.Talk.{cycle, writeCycles, operationOf, completed, shownAfter, Told, told, talk, heard}
 use Rattle.driver.proofs.Asked.{asking, begun}
-use Rattle.driver.proofs.Theorems.{writes-start, performs, gives-up, Ended, always-ends}
+use Rattle.driver.proofs.Theorems.{writes-start, performs, gives-up, succeeds, Ended, always-ends}
 use Rattle.invoice.proofs.Starts.{started-append, reads-start, one-read-starts}
 use Rattle.driver.proofs.start.Kinds as start-kinds
 use Rattle.driver.proofs.start.Reads as start-reads
@@ -158,6 +159,21 @@ module _ (κs : Lfts 0) (a : Dens κs start-kinds.ps) (x : resT start-kinds.r κ
           (ap (λ (t : Told). t .cycles)
           (gives-up started-part started-command started-address started-word p wp cells d accepted whole rests heeded (eqb-false _ _ t) n read (omega arith)))
           one (λ h. refl)
+
+  -- There, where the cell shows the wanted value once the operation has completed (after every erase, and after a program that has no bit to raise), it sends
+  -- its writes, N polls and one confirming read, leaves the operation completed on the cells and the device fresh, and ends with 0 and N polls.
+  pub driver-succeeds : (cells : List ℕ) → length cells ≡ rowOf started-part .cells → (d : Device) → idle d ≡ true
+      → (wp : Bool) → ignored (rowOf started-part) wp started-command started-address ≡ false
+      → shownAfter (rowOf started-part) started-command started-address started-word cells ≡ valueWanted (rowOf started-part) started-command started-word
+      → (n read : ℕ) → writeCount started-command + N + 1 ≤ n
+      → talk started-part wp n (stepOf (x .driver) read) (chip cells d)
+      ≡ told
+      (writeCycles wp (writesOf (rowOf started-part) started-command started-address started-word)
+      ++ (replicate N (cycle p wp (Read (addressOf started-command started-address))) ++ (cycle 0 wp (Read (addressOf started-command started-address)) ∷ [])))
+      (chip (completed (rowOf started-part) started-command started-address started-word cells) freshDevice)
+      (ended (moved (started-as started-part started-command started-address started-word p) Polling N) Done)
+  driver-succeeds cells whole d rests wp heeded same n read enough =
+      rw promise (succeeds started-part started-command started-address started-word p wp cells d accepted whole rests heeded same n read enough)
 
   -- Whatever is replied (f), a dead chip's constant among it, a started driver has ended after 6 + 2N + 1 cycles, 4 + 2N + 1 for a program: `Ended` says how.
   pub driver-ends : (wp : Bool) (f : ℕ → ℕ) (read n : ℕ) → writeCount started-command + N * 2 + 1 ≤ n
