@@ -1,6 +1,7 @@
 -- Demand 3, the invoice. For every accepted job on an idle chip with no power cut: the range ends holding the image, no other cell has changed; the bill's
 -- erases, programs, polls, scans, confirming reads and time are those of the cycles sent and follow the formulas; and no list of bus cycles does it in less.
--- Hypotheses of each theorem: the promise of `load`, as it is made from the source, of a call and of what it handed back; and that the job is not refused.
+-- Hypotheses of each theorem: the promise of `load`, or of `load_first`, as it is made from the source, of a call and of what it handed back; and that the
+-- job is not refused.
 use Prim.Native.Nat.{ℕ, _+_, _*_, _≤_}
 use mathlib.Core.Path.{_≡_}
 use mathlib.Core.Bool.{Bool}
@@ -18,9 +19,11 @@ use Rattle.chip.specs.Trace.{startedIn}
 use Rattle.job.specs.Refusal.{jobRefusal}
 use Rattle.job.proofs.load.Kinds.{ps, r}
 use Rattle.job.proofs.load.Reads.{Post}
+use Rattle.job.proofs.load_first.Kinds as first-kinds
+use Rattle.job.proofs.load_first.Reads as first-reads
 use Rattle.invoice.specs.Started.{tableTime}
-use Rattle.invoice.specs.Invoice.{Invoice, Rival}
-use Rattle.invoice.proofs.Billed.{invoice, least, table-time}
+use Rattle.invoice.specs.Invoice.{Invoice, Partly, Rival}
+use Rattle.invoice.proofs.Billed.{invoice, partly, least, table-time}
 
 -- a call of load: its arguments, the bill that it handed back, and the cells as they were when it ended
 module _ (κs : Lfts 2) (a : Dens κs ps) (bill : resT r κs .Denot) (s : AtExit (endedOf 2 ps r) κs) (promise : Post κs a bill s) where
@@ -58,3 +61,14 @@ module _ (κs : Lfts 2) (a : Dens κs ps) (bill : resT r κs .Denot) (s : AtExit
         → bill .erases * timeOf (rowOf part) 1 + bill .programs * timeOf (rowOf part) 0 ≤ tableTime (rowOf part) (startedIn part (chip cells d) cs)
     demand-3-least d cs rival =
         rw (promise .0, ← table-time part cells first image wp p accepted) (least part cells first image wp p accepted d cs rival)
+
+-- ---- the second call: load_first(part, cells, first, image, wp, p, k)
+module _ (κs : Lfts 2) (a : Dens κs first-kinds.ps) (report : resT first-kinds.r κs .Denot) (s : AtExit (endedOf 2 first-kinds.ps first-kinds.r) κs)
+    (promise : first-reads.Post κs a report s)
+    (accepted : jobRefusal (a .0) (length (a .1 .0 .now)) (a .1 .1 .0) (a .1 .1 .1 .0 .now) (a .1 .1 .1 .1 .0) (a .1 .1 .1 .1 .1 .0) ≡ 0) where
+  -- It leaves the cells as the first k of the job's bus cycles leave them, all if fewer; and its polls, reads and time are those of these cycles.
+  pub demand-3-first : Partly (a .0) (a .1 .0 .now) (a .1 .1 .0) (a .1 .1 .1 .0 .now) (a .1 .1 .1 .1 .0) (a .1 .1 .1 .1 .1 .0) (a .1 .1 .1 .1 .1 .1 .0)
+      (record { cells = s .1 .0 .now; report = report })
+  demand-3-first =
+      rw (promise .0, promise .1)
+      (partly (a .0) (a .1 .0 .now) (a .1 .1 .0) (a .1 .1 .1 .0 .now) (a .1 .1 .1 .1 .0) (a .1 .1 .1 .1 .1 .0) accepted (a .1 .1 .1 .1 .1 .1 .0))

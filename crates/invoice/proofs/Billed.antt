@@ -1,30 +1,32 @@
 -- What `load` hands back of a job that is not refused: the range holds the image, no other cell has changed, and the bill follows document 01's formulas.
 use Prim.Native.Nat.{ℕ, _+_, _-_, _*_, _≤_}
-use mathlib.Core.Path.{_≡_, refl, _∙_}
+use mathlib.Core.Path.{_≡_, refl, sym, ap, _∙_}
 use mathlib.Core.Bool.{Bool}
 use mathlib.Core.List.{List}
 use native.Mathlib.Nat.{zero-add}
 use native.Mathlib.Omega.{arith}
 use borrow.Author.Tests.{eq-eqb}
-use lib.ListN.{length}
+use lib.ListN.{length, take, length-map}
 use Rattle.parts.specs.Table.{rowOf}
 use Rattle.parts.specs.Time.{timeOf}
 use Rattle.parts.proofs.Ranges.{sector-some}
 use Rattle.chip.specs.declared.device.Device.{Device}
 use Rattle.chip.specs.declared.cycle.Cycle.{Cycle}
 use Rattle.chip.specs.Device.{freshDevice, idle}
-use Rattle.chip.specs.Cycle.{chip}
-use Rattle.chip.specs.Trace.{startedIn}
+use Rattle.chip.specs.Cycle.{Chip, chip}
+use Rattle.chip.specs.Trace.{play, startedIn}
 use Rattle.job.specs.declared.loader.Job.{Job}
+use Rattle.job.specs.declared.run.Tally.{Tally}
 use Rattle.job.specs.Refusal.{jobRefusal}
-use Rattle.job.specs.Run.{world, noneSent}
+use Rattle.job.specs.Run.{Sent, world, noneSent}
 use Rattle.job.specs.Sent.{sentOf}
-use Rattle.job.specs.Bill.{jobOf, fullOf, playedAll, loadOf}
+use Rattle.job.specs.Bill.{jobOf, fullOf, played, playedAll, loadOf, reportOf}
 use Rattle.job.specs.Formulas.{tallyOf}
 use Rattle.job.proofs.Accepts.{Passed, passed}
-use Rattle.job.proofs.Counts.{play-tally, job-fair, time-most}
-use Rattle.invoice.specs.Started.{cyclesIn, tableTime}
-use Rattle.invoice.specs.Invoice.{started, Invoice, Rival}
+use Rattle.job.proofs.Counts.{play-tally, play-sent, job-fair, time-most}
+use Rattle.invoice.specs.Started.{cyclesIn, sumIn, aPoll, aRead, theTime, tableTime}
+use Rattle.invoice.specs.Invoice.{started, Invoice, Partly, Rival}
+use Rattle.invoice.proofs.Honest.{contents, every-take, cycles-take}
 use Rattle.invoice.proofs.Starts.{world-plays}
 use Rattle.invoice.proofs.Image.{image-held}
 use Rattle.invoice.proofs.Least.{held, job-times, no-less}
@@ -46,6 +48,7 @@ module _ (part : ℕ) (cells : List ℕ) (first : ℕ) (image : List ℕ) (wp : 
       let f = job-fair j image (ok .right) cells (ok .whole) in
       let t = tally-is in
       let s = held j image (ok .right) cells (ok .whole) in
+      let c = contents (sentOf j image cells) (s .said) in
       rw (eq-eqb (jobRefusal part (length cells) first image wp p) 0 accepted)
       (record {
         holds = h .holds;
@@ -63,9 +66,28 @@ module _ (part : ℕ) (cells : List ℕ) (first : ℕ) (image : List ℕ) (wp : 
         programs = rw (t, s .begun) (s .programs);
         blocks = rw (s .begun) (s .blocks);
         chips = rw (s .begun) (s .chips);
-        polled = rw t (s .polls);
-        read = rw t (s .reads);
-        timed = rw t (s .time);
+        polled = rw t (c .polls);
+        read = rw t (c .reads);
+        timed = rw t (c .time);
+      })
+
+  -- a second call: the first k cycles
+  pub partly : (k : ℕ) → Partly part cells first image wp p k (reportOf part cells first image wp p k)
+  unfolding reportOf
+  partly k =
+      let L = sentOf j image cells in
+      let s = held j image (ok .right) cells (ok .whole) in
+      let c = contents (take k L) (every-take k L (s .said)) in
+      let e = cycles-take k L in
+      let t : played part cells first image wp p k .held .tally ≡ tallyOf (take k L) = play-tally part (world cells noneSent) (take k L) ∙ simp zero-add in
+      rw (eq-eqb (jobRefusal part (length cells) first image wp p) 0 accepted)
+      (record {
+        played = ap (λ (h : Chip). h .cells) (world-plays part (world cells noneSent) (take k L)) ∙ ap (λ (cs : List Cycle). play part (chip cells freshDevice) cs .cells) e;
+        polled = ap (λ (t : Tally). t .polls) t ∙ (c .polls ∙ ap (sumIn aPoll) e);
+        read = ap (λ (t : Tally). t .scans + t .confirms) t ∙ (c .reads ∙ ap (sumIn aRead) e);
+        timed = ap (λ (t : Tally). t .time) t ∙ (c .time ∙ ap (sumIn theTime) e);
+        sent = play-sent part (world cells noneSent) (take k L) ∙ (zero-add (length (take k L)) ∙ (sym (length-map (take k L) (λ (s : Sent). s .cycle)) ∙ ap length e));
+        answer = refl;
       })
 
   -- no list of bus cycles that also loads the image starts operations whose table times add up to less than those of the operations that the job starts

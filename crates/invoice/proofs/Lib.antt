@@ -1,4 +1,5 @@
 pub mod Listed
+pub mod Honest
 pub mod Starts
 pub mod Bits
 pub mod Image

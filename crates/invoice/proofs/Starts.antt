@@ -5,14 +5,13 @@ use mathlib.Core.Bool.{Bool, true, false}
 use mathlib.Core.List.{List, [], _∷_, _++_, append-assoc, map-append}
 use native.Mathlib.Nat.{zero-add, add-zero}
 use native.Mathlib.Omega.{arith}
-use borrow.Author.Tests.{ne-eqb, lt-ltb}
+use borrow.Author.Tests.{ne-eqb}
 use lib.Dec.{eqb}
 use lib.ListN.{length, replicate}
 use Rattle.parts.specs.Pick.{pick}
 use Rattle.parts.specs.Table.{rowOf}
-use Rattle.parts.proofs.Every.{both}
+use Rattle.parts.proofs.Every.{both, every}
 use Rattle.parts.specs.Time.{pollsOf}
-use Rattle.parts.specs.declared.table.Row.{Row}
 use Rattle.chip.specs.declared.device.Device.{Device}
 use Rattle.chip.specs.declared.device.Operation.{Operation}
 use Rattle.chip.specs.declared.cycle.Action.the-variants.{Read}
@@ -23,7 +22,7 @@ use Rattle.chip.specs.Cycle.{Chip, Outcome, outcome, shownOf, status, toggled, 
 use Rattle.chip.specs.Trace.{after, play, startedBy, startedIn, uncutAction, uncut}
 use Rattle.driver.specs.declared.writes.Write.{Write}
 use Rattle.driver.specs.Writes.{writesOf}
-use Rattle.driver.specs.Talk.{writeCycle, writeCycles, operationOf, cycle}
+use Rattle.driver.specs.Talk.{writeCycles, operationOf, cycle}
 use Rattle.driver.specs.Refusals.{startRefusal}
 use Rattle.driver.proofs.Asked.{asking, begun}
 use Rattle.driver.proofs.Theorems.{writes-start}
@@ -35,7 +34,8 @@ use Rattle.job.specs.Sent.{operated, scanRead}
 use Rattle.job.specs.Formulas.{tallyOf, N}
 use Rattle.job.proofs.Rest.{chipOf}
 use Rattle.job.proofs.Counts.{tally-append, program-tally, erase-tally}
-use Rattle.invoice.specs.Started.{cyclesIn, sumIn, aPoll, aRead, theTime, many}
+use Rattle.invoice.specs.Started.{cyclesIn, many}
+use Rattle.invoice.proofs.Honest.{honest, every-append, operated-honest}
 
 -- ---- lists of cycles
 -- cycles in a row
@@ -125,22 +125,8 @@ pub record Starts (part : ℕ) (w : World) (L : List Sent) (os : List Operation)
   pub blocks : many 2 os ≡ 0
   pub chips : many 3 os ≡ 0
   pub whole : uncut (cyclesIn L) ≡ true
-  -- what they count as polls, scans and confirming reads, and time, are those of the cycles
-  pub polls : tallyOf L .polls ≡ sumIn aPoll (cyclesIn L)
-  pub reads : tallyOf L .scans + tallyOf L .confirms ≡ sumIn aRead (cyclesIn L)
-  pub time : tallyOf L .time ≡ sumIn theTime (cyclesIn L)
-
-sum-append : (f : Cycle → ℕ) (cs ds : List Cycle) → sumIn f (cs ++ ds) ≡ sumIn f cs + sumIn f ds
-sum-append f [] ds = sym (zero-add (sumIn f ds))
-sum-append f (c ∷ cs) ds = omega (arith, sum-append f cs ds)
-
-sum-many : (f : Cycle → ℕ) (c : Cycle) (n : ℕ) → sumIn f (replicate n c) ≡ n * f c
-sum-many f c zero = omega arith
-sum-many f c (suc n) = omega (arith, sum-many f c n)
-
-writes-none : (f : Cycle → ℕ) (wp : Bool) → ((w : Write) → f (writeCycle wp w) ≡ 0) → (ws : List Write) → sumIn f (writeCycles wp ws) ≡ 0
-writes-none f wp z [] = refl
-writes-none f wp z (w ∷ ws) = omega (arith, z w, writes-none f wp z ws)
+  -- and the cycles are what their purposes say
+  pub said : every honest L ≡ true
 
 many-append : (k : ℕ) (os ps : List Operation) → many k (os ++ ps) ≡ many k os + many k ps
 many-append k [] ps = sym (zero-add (many k ps))
@@ -150,7 +136,7 @@ module _ (part : ℕ) (w : World) where
   -- no cycle
   pub starts-none : Starts part w [] []
   unfolding tallyOf
-  starts-none = record { begun = refl; erases = refl; programs = refl; blocks = refl; chips = refl; whole = refl; polls = refl; reads = refl; time = refl }
+  starts-none = record { begun = refl; erases = refl; programs = refl; blocks = refl; chips = refl; whole = refl; said = refl }
 
   -- two lists in a row
   pub starts-append : (L M : List Sent) (os ps : List Operation) → Starts part w L os → Starts part (playOf part w L) M ps → Starts part w (L ++ M) (os ++ ps)
@@ -165,19 +151,14 @@ module _ (part : ℕ) (w : World) where
         blocks = omega (arith, many-append 2 os ps, s .blocks, t .blocks);
         chips = omega (arith, many-append 3 os ps, s .chips, t .chips);
         whole = ap uncut (cycles-append L M) ∙ uncut-append (cyclesIn L) (cyclesIn M) (s .whole) (t .whole);
-        polls = ap (λ (t : Tally). t .polls) (tally-append L M) ∙ omega (arith, sums aPoll, s .polls, t .polls);
-        reads = ap (λ (t : Tally). t .scans + t .confirms) (tally-append L M) ∙ omega (arith, sums aRead, s .reads, t .reads);
-        time = ap (λ (t : Tally). t .time) (tally-append L M) ∙ omega (arith, sums theTime, s .time, t .time);
+        said = every-append L M (s .said) (t .said);
       }
-    where
-      sums : (f : Cycle → ℕ) → sumIn f (cyclesIn (L ++ M)) ≡ sumIn f (cyclesIn L) + sumIn f (cyclesIn M)
-      sums f = ap (sumIn f) (cycles-append L M) ∙ sum-append f (cyclesIn L) (cyclesIn M)
 
   module _ (j : Job) (a : ℕ) where
     -- a read
     pub starts-read : Starts part w (scanRead j a ∷ []) []
     unfolding tallyOf
-    starts-read = record { begun = rw (read-starts part (chipOf w) 0 (j .wp) a); erases = refl; programs = refl; blocks = refl; chips = refl; whole = refl; polls = refl; reads = refl; time = refl }
+    starts-read = record { begun = rw (read-starts part (chipOf w) 0 (j .wp) a); erases = refl; programs = refl; blocks = refl; chips = refl; whole = refl; said = refl }
 
 -- an operation's cycles, from an idle chip, where it is accepted and not ignored
 module _ (j : Job) (command a x : ℕ) (few : command ≤ 1) (row : j .row ≡ rowOf (j .part)) (w : World)
@@ -209,30 +190,12 @@ module _ (j : Job) (command a x : ℕ) (few : command ≤ 1) (row : j .row ≡ r
   tallies (suc zero) le = erase-tally j a x
   tallies (suc (suc c)) le = absurd (omega arith)
 
-  some : 0 < j .p
-  some = begun (j .part) command a x (j .p) accepted .some
-
-  same-N : N j command ≡ n
-  same-N = ap (λ (r : Row). pollsOf r command (j .p)) row
-
-  -- of f, that is nothing of a write: the polls and the confirming read
-  sums : (f : Cycle → ℕ) → ((w : Write) → f (writeCycle (j .wp) w) ≡ 0)
-      → sumIn f (cyclesIn (operated j command a x)) ≡ n * f (cycle (j .p) (j .wp) (Read a)) + f (cycle 0 (j .wp) (Read a))
-  sums f z =
-      let ws = writeCycles (j .wp) (writesOf (rowOf (j .part)) command a x) in
-      let c = cycle (j .p) (j .wp) (Read a) in
-      let d = cycle 0 (j .wp) (Read a) ∷ [] in
-      ap (sumIn f) listed
-      ∙ (sum-append f ws (replicate n c ++ d) ∙ omega (arith, writes-none f (j .wp) z (writesOf (rowOf (j .part)) command a x), sum-append f (replicate n c) d, sum-many f c n))
-
   other : (c : ℕ) → c ≤ 1 → (k : ℕ) → 1 < k → pick (eqb c k) 1 0 + 0 ≡ 0
   other c le k lt = rw (ne-eqb c k (λ e. omega arith))
 
   pub starts-operated : Starts (j .part) w (operated j command a x) (o ∷ [])
   starts-operated =
       let t = tallies command few in
-      let polled : aPoll (cycle (j .p) (j .wp) (Read a)) ≡ 1 = rw (lt-ltb 0 (j .p) some) in
-      let later : aRead (cycle (j .p) (j .wp) (Read a)) ≡ 0 = rw (ne-eqb (j .p) 0 (λ e. omega (arith, some))) in
       let ws = writeCycles (j .wp) (writesOf (rowOf (j .part)) command a x) in
       let reads = replicate n (cycle (j .p) (j .wp) (Read a)) ++ (cycle 0 (j .wp) (Read a) ∷ []) in
       record {
@@ -242,7 +205,5 @@ module _ (j : Job) (command a x : ℕ) (few : command ≤ 1) (row : j .row ≡ r
         blocks = other command few 2 (omega arith);
         chips = other command few 3 (omega arith);
         whole = ap uncut listed ∙ uncut-append ws reads (writes-uncut (j .wp) (writesOf (rowOf (j .part)) command a x)) (reads-uncut n (j .p) 0 (j .wp) a);
-        polls = ap (λ (t : Tally). t .polls) t ∙ (same-N ∙ sym (sums aPoll (λ w. refl) ∙ rw polled (omega arith)));
-        reads = ap (λ (t : Tally). t .scans + t .confirms) t ∙ sym (sums aRead (λ w. refl) ∙ rw later (omega arith));
-        time = ap (λ (t : Tally). t .time) t ∙ (ap (λ (m : ℕ). m * j .p) same-N ∙ sym (sums theTime (λ w. refl) ∙ omega arith));
+        said = operated-honest j command a x (begun (j .part) command a x (j .p) accepted .some);
       }

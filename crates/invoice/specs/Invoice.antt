@@ -15,7 +15,7 @@ use Rattle.chip.specs.Cycle.{chip}
 use Rattle.chip.specs.Trace.{play, startedIn, uncut as uncutAll}
 use Rattle.job.specs.Total.{sumOf}
 use Rattle.job.specs.Sent.{sentOf}
-use Rattle.job.specs.Bill.{jobOf, playedAll, Loaded}
+use Rattle.job.specs.Bill.{jobOf, playedAll, Loaded, Reported}
 use Rattle.invoice.specs.Started.{cyclesIn, sumIn, aPoll, aRead, theTime, many}
 
 -- the job's bus cycles
@@ -53,6 +53,15 @@ pub record Invoice (part : ℕ) (cells : List ℕ) (first : ℕ) (image : List �
   -- sum = the range's values added in 16 bits, wrapping; and the answer is 0
   pub sum : l .bill .sum ≡ sumOf (rowOf part .width) (take (length image) (drop first (l .cells)))
   pub answer : l .bill .answer ≡ 0
+
+-- what is said of the cells and the report that a second call came to: the first k of the job's bus cycles, all if fewer, played and counted
+pub record Partly (part : ℕ) (cells : List ℕ) (first : ℕ) (image : List ℕ) (wp : Bool) (p k : ℕ) (l : Reported) : Type 0 where
+  pub played : l .cells ≡ play part (chip cells freshDevice) (take k (sentCycles part cells first image wp p)) .cells
+  pub polled : l .report .polls ≡ sumIn aPoll (take k (sentCycles part cells first image wp p))
+  pub read : l .report .scans + l .report .confirms ≡ sumIn aRead (take k (sentCycles part cells first image wp p))
+  pub timed : l .report .time ≡ sumIn theTime (take k (sentCycles part cells first image wp p))
+  pub sent : l .report .sent ≡ length (take k (sentCycles part cells first image wp p))
+  pub answer : l .report .answer ≡ 0
 
 -- a list of bus cycles that also loads the image: from the same cells and an idle device, without cut, block or chip erase, to an idle device
 pub record Rival (part : ℕ) (cells : List ℕ) (first : ℕ) (image : List ℕ) (d : Device) (cs : List Cycle) : Type 0 where

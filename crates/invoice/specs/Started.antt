@@ -1,7 +1,8 @@
 -- Of sent cycles: their polls, reads and µs; and of the operations that they start, how many are of a kind, and their table times added up.
 use Prim.Native.Nat.{ℕ, _+_}
+use mathlib.Core.Bool.{Bool, true, false}
 use mathlib.Core.List.{List, [], _∷_, map}
-use lib.Dec.{eqb}
+use lib.Dec.{eqb, ltb}
 use Rattle.parts.specs.Pick.{pick}
 use Rattle.parts.specs.Time.{timeOf}
 use Rattle.parts.specs.declared.table.Row.{Row}
@@ -9,7 +10,6 @@ use Rattle.chip.specs.declared.device.Operation.{Operation}
 use Rattle.chip.specs.declared.cycle.Action.{Action}
 use Rattle.chip.specs.declared.cycle.Action.the-variants.{Read, Write, Idle, Cut}
 use Rattle.chip.specs.declared.cycle.Cycle.{Cycle}
-use Rattle.driver.specs.Talk.{isPoll}
 use Rattle.job.specs.Run.{Sent}
 
 -- the bus cycles of a list of sent ones, without their purposes
@@ -21,19 +21,21 @@ abbrev pub sumIn : (Cycle → ℕ) → List Cycle → ℕ
 sumIn f [] = 0
 sumIn f (c ∷ cs) = f c + sumIn f cs
 
--- 1 for a poll, that is a read after some µs; 1 for a read at 0 µs, that is a scan or a confirming read; the µs
+abbrev pub isRead : Action → Bool
+isRead (Read a) = true
+isRead (Write a x) = false
+isRead Idle = false
+isRead (Cut x) = false
+
+-- 1 for a poll, that is a read after some µs
 abbrev pub aPoll : Cycle → ℕ
-aPoll c = isPoll (c .action) (c .elapsed)
+aPoll c = pick (isRead (c .action)) (pick (ltb 0 (c .elapsed)) 1 0) 0
 
-abbrev pub isRead : Action → ℕ
-isRead (Read a) = 1
-isRead (Write a x) = 0
-isRead Idle = 0
-isRead (Cut x) = 0
-
+-- 1 for a read at 0 µs, that is a scan or a confirming read
 abbrev pub aRead : Cycle → ℕ
-aRead c = pick (eqb (c .elapsed) 0) (isRead (c .action)) 0
+aRead c = pick (isRead (c .action)) (pick (ltb 0 (c .elapsed)) 0 1) 0
 
+-- its µs
 abbrev pub theTime : Cycle → ℕ
 theTime c = c .elapsed
 
