@@ -36,81 +36,82 @@ pub struct Found {
 }
 
 // The table, a line a part.
+const LINES: [Line; 11] = [
+    // 0 bench (house)
+    Line {
+        columns: [16, 8192, 4096, 0xfff0, 14, 18000, 70000],
+        beside: [0x555, 0x2aa, 2048, 0x30, 0x50, 1],
+    },
+    // 1 SF010A
+    Line {
+        columns: [8, 131072, 0, 0xb5, 14, 18000, 70000],
+        beside: [0x5555, 0x2aaa, 32768, 0x30, 0x50, 0],
+    },
+    // 2 SF020A
+    Line {
+        columns: [8, 262144, 0, 0xb6, 14, 18000, 70000],
+        beside: [0x5555, 0x2aaa, 32768, 0x30, 0x50, 0],
+    },
+    // 3 SF040
+    Line {
+        columns: [8, 524288, 0, 0xb7, 14, 18000, 70000],
+        beside: [0x5555, 0x2aaa, 32768, 0x30, 0x50, 0],
+    },
+    // 4 VF200A
+    Line {
+        columns: [16, 131072, 32768, 0x2789, 14, 18000, 70000],
+        beside: [0x5555, 0x2aaa, 32768, 0x30, 0x50, 0],
+    },
+    // 5 VF400A
+    Line {
+        columns: [16, 262144, 32768, 0x2780, 14, 18000, 70000],
+        beside: [0x5555, 0x2aaa, 32768, 0x30, 0x50, 0],
+    },
+    // 6 VF800A
+    Line {
+        columns: [16, 524288, 32768, 0x2781, 14, 18000, 70000],
+        beside: [0x5555, 0x2aaa, 32768, 0x30, 0x50, 0],
+    },
+    // 7 WF1601
+    Line {
+        columns: [16, 1048576, 32768, 0x274b, 28, 36000, 140000],
+        beside: [0x5555, 0x2aaa, 32768, 0x30, 0x50, 1],
+    },
+    // 8 WF1602
+    Line {
+        columns: [16, 1048576, 32768, 0x274a, 28, 36000, 140000],
+        beside: [0x5555, 0x2aaa, 32768, 0x30, 0x50, 2],
+    },
+    // 9 VF6401B
+    Line {
+        columns: [16, 4194304, 32768, 0x236d, 7, 18000, 40000],
+        beside: [0x555, 0x2aa, 2048, 0x50, 0x30, 1],
+    },
+    // 10 VF6402B
+    Line {
+        columns: [16, 4194304, 32768, 0x236c, 7, 18000, 40000],
+        beside: [0x555, 0x2aa, 2048, 0x50, 0x30, 2],
+    },
+];
 
-// 0 bench (house)
-const BENCH: Line = Line {
-    columns: [16, 8192, 4096, 0xfff0, 14, 18000, 70000],
-    beside: [0x555, 0x2aa, 2048, 0x30, 0x50, 1],
-};
-// 1 SF010A
-const SF010A: Line = Line {
-    columns: [8, 131072, 0, 0xb5, 14, 18000, 70000],
-    beside: [0x5555, 0x2aaa, 32768, 0x30, 0x50, 0],
-};
-// 2 SF020A
-const SF020A: Line = Line {
-    columns: [8, 262144, 0, 0xb6, 14, 18000, 70000],
-    beside: [0x5555, 0x2aaa, 32768, 0x30, 0x50, 0],
-};
-// 3 SF040
-const SF040: Line = Line {
-    columns: [8, 524288, 0, 0xb7, 14, 18000, 70000],
-    beside: [0x5555, 0x2aaa, 32768, 0x30, 0x50, 0],
-};
-// 4 VF200A
-const VF200A: Line = Line {
-    columns: [16, 131072, 32768, 0x2789, 14, 18000, 70000],
-    beside: [0x5555, 0x2aaa, 32768, 0x30, 0x50, 0],
-};
-// 5 VF400A
-const VF400A: Line = Line {
-    columns: [16, 262144, 32768, 0x2780, 14, 18000, 70000],
-    beside: [0x5555, 0x2aaa, 32768, 0x30, 0x50, 0],
-};
-// 6 VF800A
-const VF800A: Line = Line {
-    columns: [16, 524288, 32768, 0x2781, 14, 18000, 70000],
-    beside: [0x5555, 0x2aaa, 32768, 0x30, 0x50, 0],
-};
-// 7 WF1601
-const WF1601: Line = Line {
-    columns: [16, 1048576, 32768, 0x274b, 28, 36000, 140000],
-    beside: [0x5555, 0x2aaa, 32768, 0x30, 0x50, 1],
-};
-// 8 WF1602
-const WF1602: Line = Line {
-    columns: [16, 1048576, 32768, 0x274a, 28, 36000, 140000],
-    beside: [0x5555, 0x2aaa, 32768, 0x30, 0x50, 2],
-};
-// 9 VF6401B
-const VF6401B: Line = Line {
-    columns: [16, 4194304, 32768, 0x236d, 7, 18000, 40000],
-    beside: [0x555, 0x2aa, 2048, 0x50, 0x30, 1],
-};
-// 10 VF6402B
-const VF6402B: Line = Line {
-    columns: [16, 4194304, 32768, 0x236c, 7, 18000, 40000],
-    beside: [0x555, 0x2aa, 2048, 0x50, 0x30, 2],
-};
-
-// The line of a part. The lines are picked by a match and stand in no array: an array that is indexed by a number known only
-// when the program runs is copied whole at each look.
+// The line of a part: each by a literal index, so that no compiled look copies the table.
 fn line_of(part: u32) -> Line
     requires { ⌜ part ≤ 10 ⌝ }
     ensures { λ r. ⌜ r ≡ lineOf part ⌝ }
 {
+    let lines = LINES;
     match part {
-        0 => BENCH,
-        1 => SF010A,
-        2 => SF020A,
-        3 => SF040,
-        4 => VF200A,
-        5 => VF400A,
-        6 => VF800A,
-        7 => WF1601,
-        8 => WF1602,
-        9 => VF6401B,
-        _ => VF6402B,
+        0 => lines[0],
+        1 => lines[1],
+        2 => lines[2],
+        3 => lines[3],
+        4 => lines[4],
+        5 => lines[5],
+        6 => lines[6],
+        7 => lines[7],
+        8 => lines[8],
+        9 => lines[9],
+        _ => lines[10],
     }
 }
 
