@@ -1,18 +1,19 @@
 -- What a command, and a driver's start, that is not refused says of what was asked.
 use Prim.Native.Nat.{ℕ, _≤_, _<_}
-use mathlib.Core.Path.{_≡_, refl}
+use mathlib.Core.Path.{_≡_, refl, ap, _∙_}
 use mathlib.Core.Bool.{true}
 use native.Mathlib.Omega.{arith}
 use borrow.Author.Tests.{ltb-true, ltb-false, lt-ltb, le-ltb, eqb-true, eqb-false, eq-eqb, ne-eqb}
 use lib.Dec.{eqb, ltb}
 use Rattle.parts.specs.Pick.{pick}
 use Rattle.parts.specs.Width.{fitsIn}
-use Rattle.parts.specs.Table.{rowOf, partRefusal}
+use Rattle.parts.specs.Table.{rowOf, partRefusal, foundOf}
 use Rattle.parts.specs.Time.{hasCommand}
 use Rattle.parts.specs.declared.table.Row.{Row}
+use Rattle.parts.specs.declared.table.Found.{Found}
 use Rattle.parts.proofs.Every.{split}
 use Rattle.parts.proofs.Refused.{zero-left, zero-right, none-first}
-use Rattle.driver.specs.Refusals.{dataRefusal, targetRefusal, commandRefusal, startRefusal}
+use Rattle.driver.specs.Refusals.{dataRefusal, targetRefusal, commandOn, commandRefusal, startOn, startRefusal}
 
 -- ---- what is asked of a row
 pub record Target (r : Row) (command a x : ℕ) : Type 0 where
@@ -43,6 +44,16 @@ targets r command a x w =
   where
     Zero : ℕ → Type 0
     Zero n = n ≡ 0
+
+-- ---- the refusal found on a part that was looked up is the part's
+module _ (f : Found) (part command a x n : ℕ) (found : f ≡ foundOf part) where
+  pub command-found : n ≡ commandOn f command a x → n ≡ commandRefusal part command a x
+  unfolding commandRefusal
+  command-found e = e ∙ ap (λ (g : Found). commandOn g command a x) found
+
+  pub start-found : (p : ℕ) → n ≡ startOn f command a x p → n ≡ startRefusal part command a x p
+  unfolding startRefusal
+  start-found p e = e ∙ ap (λ (g : Found). startOn g command a x p) found
 
 -- ---- of a command's writes
 pub record Asked (part command a x : ℕ) : Type 0 where

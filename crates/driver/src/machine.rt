@@ -3,9 +3,12 @@ use crate::refusals::start_refusal;
 use crate::writes::nth_write;
 use crate::writes::write_count;
 use chip::Action;
+use parts::Found;
 use parts::Row;
 ghost use mathlib.Core.Path.{_≡_};
 ghost use Prim.Native.Nat.{_<_, _≤_};
+ghost use lib.Dec.{eqb, leb, ltb};
+ghost use Rattle.parts.specs.Table.{foundOf};
 ghost use Rattle.driver.specs.Machine.{addressOf, afterWrite, bitSeven, bitWanted, confirmingOf, confirms, countFits, dataOf, driver, inRange, matches, mostPolls, moved, pollingOf, polls, someUpTo, startOf, step, stepOf, valueWanted, writingOf};
 ghost use Rattle.driver.specs.Usual.{Usual};
 ghost use Rattle.driver.specs.Writes.{writeCount};
@@ -120,7 +123,8 @@ fn begin(part: u32, command: u32, address: u32, data: u16, p: u32) -> Driver
 pub fn start(part: u32, command: u32, address: u32, data: u16, p: u32) -> Started
     ensures { λ r. ⌜ r ≡ startOf part command address «data» p ⌝ }
 {
-    let answer = start_refusal(part, command, address, data, p);
+    let found = parts::part_row(part);
+    let answer = start_refusal(found, command, address, data, p);
     if 0 < answer {
         return Started {
             answer,
@@ -135,53 +139,77 @@ pub fn start(part: u32, command: u32, address: u32, data: u16, p: u32) -> Starte
     }
 }
 
-// After how many polls it gives up.
-fn most_polls(row: Row, command: u32, p: u32) -> u32
-    requires { ⌜ Usual row ⌝ }
-    ensures { λ r. ⌜ r ≡ mostPolls row command p ⌝ }
-{
-    parts::rounded_up(row.time(command), p) * 2
-}
-
-// Whether n is 1 to m.
-fn some_up_to(m: u32, n: u32) -> bool
-    ensures { λ r. ⌜ r ≡ someUpTo m n ⌝ }
-{
-    if 0 < n {
-        return n <= m;
-    }
-    false
-}
-
-// Whether n writes or polls fit a phase, of w writes and at most m polls.
-fn count_fits(phase: Phase, w: u32, m: u32, n: u32) -> bool
-    ensures { λ r. ⌜ r ≡ countFits phase w m n ⌝ }
-{
-    match phase {
-        Phase::Writing => n < w,
-        Phase::Polling => n <= m,
-        Phase::Confirming => some_up_to(m, n),
-        Phase::Done => some_up_to(m, n),
-        Phase::GaveUp => n == m,
-        Phase::Differs => some_up_to(m, n),
-    }
-}
-
 impl Driver {
-    // Whether the state is in range.
-    fn in_range(self) -> bool
+    // Whether n polls are fewer than the most, 2N: found with no division.
+    fn polls_left(self, row: Row, n: u32) -> bool
+        requires { ⌜ 0 < self .p ⌝ }
+        ensures { λ r. ⌜ r ≡ ltb n (mostPolls row (self .command) (self .p)) ⌝ }
+    {
+        let passed = (n / 2) as u64 * self.p as u64;
+        passed < row.time(self.command) as u64
+    }
+
+    // Whether the count is at most 2N.
+    fn polls_fit(self, row: Row) -> bool
+        requires { ⌜ 0 < self .p ⌝ }
+        ensures { λ r. ⌜ r ≡ leb (self .count) (mostPolls row (self .command) (self .p)) ⌝ }
+    {
+        let n = self.count;
+        if 0 < n {
+            return self.polls_left(row, n - 1);
+        }
+        true
+    }
+
+    // Whether the count is 1 to 2N.
+    fn some_polls(self, row: Row) -> bool
+        requires { ⌜ 0 < self .p ⌝ }
+        ensures { λ r. ⌜ r ≡ someUpTo (mostPolls row (self .command) (self .p)) (self .count) ⌝ }
+    {
+        if 0 < self.count {
+            return self.polls_fit(row);
+        }
+        false
+    }
+
+    // Whether the count is 2N.
+    fn all_polls(self, row: Row) -> bool
+        requires { ⌜ 0 < self .p ⌝ }
+        ensures { λ r. ⌜ r ≡ eqb (self .count) (mostPolls row (self .command) (self .p)) ⌝ }
+    {
+        if self.polls_left(row, self.count) {
+            return false;
+        }
+        self.polls_fit(row)
+    }
+
+    // Whether so many writes or polls fit the phase.
+    fn count_fits(self, row: Row) -> bool
+        requires { ⌜ 0 < self .p ⌝ }
+        ensures { λ r. ⌜ r ≡ countFits (self .phase) (writeCount (self .command)) (mostPolls row (self .command) (self .p)) (self .count) ⌝ }
+    {
+        let phase = self.phase;
+        match phase {
+            Phase::Writing => self.count < write_count(self.command),
+            Phase::Polling => self.polls_fit(row),
+            Phase::Confirming => self.some_polls(row),
+            Phase::Done => self.some_polls(row),
+            Phase::GaveUp => self.all_polls(row),
+            Phase::Differs => self.some_polls(row),
+        }
+    }
+
+    // Whether the state is in range, its part looked up.
+    fn in_range(self, found: Found) -> bool
+        requires { ⌜ found ≡ foundOf (self .part) ⌝ }
         ensures { λ r. ⌜ r ≡ inRange self ⌝ }
     {
-        let command = self.command;
-        let answer = start_refusal(self.part, command, self.address, self.data, self.p);
+        let answer = start_refusal(found, self.command, self.address, self.data, self.p);
         if 0 < answer {
             return false;
         }
-        let found = parts::part_row(self.part);
         let row = found.row;
-        let m = most_polls(row, command, self.p);
-        let phase = self.phase;
-        count_fits(phase, write_count(command), m, self.count)
+        self.count_fits(row)
     }
 
     // The same driver in a phase, with a count.
@@ -288,12 +316,13 @@ impl Driver {
     // Polls on, confirms or gives up.
     fn poll_on(self, row: Row, read: u16) -> Step
         requires { ⌜ Usual row ⌝ }
+        requires { ⌜ 0 < self .p ⌝ }
         ensures { λ r. ⌜ r ≡ pollingOf row self read ⌝ }
     {
         if self.is_match(read) {
             return self.confirm();
         }
-        if self.count < most_polls(row, self.command, self.p) {
+        if self.polls_left(row, self.count) {
             return self.poll();
         }
         self.end(Phase::GaveUp, 11)
@@ -314,7 +343,8 @@ impl Driver {
     pub fn step(self, read: u16) -> Step
         ensures { λ r. ⌜ r ≡ stepOf self read ⌝ }
     {
-        if !self.in_range() {
+        let found = parts::part_row(self.part);
+        if !self.in_range(found) {
             return Step {
                 answer: 5,
                 driver: self,
@@ -322,7 +352,6 @@ impl Driver {
                 polls: 0,
             };
         }
-        let found = parts::part_row(self.part);
         let row = found.row;
         let phase = self.phase;
         match phase {

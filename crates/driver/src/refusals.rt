@@ -1,7 +1,8 @@
 // The refusals of a command and of a driver's start, in document 01's order.
+use parts::Found;
 use parts::Row;
 ghost use mathlib.Core.Path.{_≡_};
-ghost use Rattle.driver.specs.Refusals.{commandRefusal, dataRefusal, startRefusal, targetRefusal};
+ghost use Rattle.driver.specs.Refusals.{commandOn, dataRefusal, startOn, targetRefusal};
 
 // 4 for data to program that does not fit.
 fn data_refusal(row: Row, command: u32, data: u16) -> u32
@@ -33,10 +34,9 @@ fn target_refusal(row: Row, command: u32, address: u32, data: u16) -> u32
 }
 
 // The refusal of a command's writes: 1, 14, 3, 4.
-pub(crate) fn command_refusal(part: u32, command: u32, address: u32, data: u16) -> u32
-    ensures { λ r. ⌜ r ≡ commandRefusal part command address «data» ⌝ }
+pub(crate) fn command_refusal(found: Found, command: u32, address: u32, data: u16) -> u32
+    ensures { λ r. ⌜ r ≡ commandOn found command address «data» ⌝ }
 {
-    let found = parts::part_row(part);
     let answer = found.answer;
     if 0 < answer {
         return answer;
@@ -46,10 +46,9 @@ pub(crate) fn command_refusal(part: u32, command: u32, address: u32, data: u16) 
 }
 
 // The refusal of a driver's start: 1, 10, 14, 3, 4.
-pub(crate) fn start_refusal(part: u32, command: u32, address: u32, data: u16, p: u32) -> u32
-    ensures { λ r. ⌜ r ≡ startRefusal part command address «data» p ⌝ }
+pub(crate) fn start_refusal(found: Found, command: u32, address: u32, data: u16, p: u32) -> u32
+    ensures { λ r. ⌜ r ≡ startOn found command address «data» p ⌝ }
 {
-    let found = parts::part_row(part);
     let answer = found.answer;
     if 0 < answer {
         return answer;

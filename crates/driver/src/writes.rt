@@ -150,7 +150,8 @@ pub(crate) fn nth_write(row: Row, command: u32, address: u32, data: u16, k: u32)
 pub fn command_writes(part: u32, command: u32, address: u32, data: u16) -> Writes
     ensures { λ r. ⌜ r ≡ commandWrites part command address «data» ⌝ }
 {
-    let answer = command_refusal(part, command, address, data);
+    let found = parts::part_row(part);
+    let answer = command_refusal(found, command, address, data);
     if 0 < answer {
         let none = Write {
             address: 0,
@@ -162,7 +163,6 @@ pub fn command_writes(part: u32, command: u32, address: u32, data: u16) -> Write
             writes: [none; 6],
         };
     }
-    let found = parts::part_row(part);
     let row = found.row;
     writes_of(row, command, address, data)
 }
@@ -182,14 +182,14 @@ fn refused(answer: u32) -> Kth
 pub fn kth_write(part: u32, command: u32, address: u32, data: u16, k: u32) -> Kth
     ensures { λ r. ⌜ r ≡ kthWrite part command address «data» k ⌝ }
 {
-    let answer = command_refusal(part, command, address, data);
+    let found = parts::part_row(part);
+    let answer = command_refusal(found, command, address, data);
     if 0 < answer {
         return refused(answer);
     }
     if write_count(command) <= k {
         return refused(15);
     }
-    let found = parts::part_row(part);
     let row = found.row;
     let w = nth_write(row, command, address, data, k);
     Kth {

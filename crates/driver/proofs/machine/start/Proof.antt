@@ -4,8 +4,12 @@ use native.Mathlib.Omega.{arith}
 use borrow.Author.Needs.{needs}
 use borrow.Author.Tests.{eq-eqb, ne-eqb}
 use Rattle.driver.specs.Machine.{startOf}
+use Rattle.driver.proofs.Asked.{start-found}
 use Rattle.driver.proofs.machine.start.Statement.{statement}
 use Rattle.driver.proofs.machine.start.Tie as tie
+
+part-row-requires : tie.Need-part-row-requires
+part-row-requires c κs = search needs
 
 start-refusal-requires : tie.Need-start-refusal-requires
 start-refusal-requires c κs = search needs
@@ -15,7 +19,8 @@ begin-requires c κs = search needs
 
 returns : tie.Need-returns
 unfolding startOf
-returns c = simp (sym (c .before .before .start-refusal .ensures), ne-eqb (c .before .before .start-refusal .result) 0 (λ z. omega arith), c .begin .ensures)
+returns c = let h = start-found (c .before .before .before .part-row .result) (c .before .before .before .before .args .part) (c .before .before .before .before .args .command) (c .before .before .before .before .args .address) (c .before .before .before .before .args .«data») (c .before .before .start-refusal .result) (c .before .before .before .part-row .ensures) (c .before .before .before .before .args .p) (c .before .before .start-refusal .ensures) in
+    simp (sym h, ne-eqb (c .before .before .start-refusal .result) 0 (λ z. omega arith), c .begin .ensures)
 
 address-of-requires : tie.Need-address-of-requires
 address-of-requires c κs = search needs
@@ -28,13 +33,15 @@ begin-requires-2 c κs = search needs
 
 returns-2 : tie.Need-returns-2
 unfolding startOf
-returns-2 c = let z : c .before .before .before .before .start-refusal .result ≡ 0 = omega arith in
-    simp (sym (c .before .before .before .before .start-refusal .ensures), eq-eqb _ _ z, c .begin2 .ensures, c .before .before .address-of .ensures, c .before .data-of .ensures)
+returns-2 c = let h = start-found (c .before .before .before .before .before .part-row .result) (c .before .before .before .before .before .before .args .part) (c .before .before .before .before .before .before .args .command) (c .before .before .before .before .before .before .args .address) (c .before .before .before .before .before .before .args .«data») (c .before .before .before .before .start-refusal .result) (c .before .before .before .before .before .part-row .ensures) (c .before .before .before .before .before .before .args .p) (c .before .before .before .before .start-refusal .ensures) in
+    let z : c .before .before .before .before .start-refusal .result ≡ 0 = omega arith in
+    simp (sym h, eq-eqb _ _ z, c .begin2 .ensures, c .before .before .address-of .ensures, c .before .data-of .ensures)
 
 pub start-spec : {M : Type 1} → statement M
 start-spec =
     tie.close
     (tie.spec
+    part-row-requires
     start-refusal-requires
     begin-requires
     returns

@@ -1,38 +1,25 @@
 -- `driver::refusals::start_refusal` meets its contract.
-use mathlib.Core.Path.{ap, sym}
 use borrow.Author.Needs.{needs}
 use borrow.Author.Tests.{eq-eqb, ne-eqb, lt-ltb, le-ltb}
-use Rattle.parts.specs.declared.table.Found.{Found}
-use Rattle.driver.specs.Refusals.{startRefusal}
 use Rattle.parts.proofs.Rules.{tests}
 use Rattle.driver.proofs.refusals.start_refusal.Statement.{statement}
 use Rattle.driver.proofs.refusals.start_refusal.Tie as tie
 
-part-row-requires : tie.Need-part-row-requires
-part-row-requires c κs = search needs
-
 returns : tie.Need-returns
-unfolding startRefusal
-returns c = let e = ap (λ (f : Found). f .answer) (c .before .part-row .ensures) in simp (sym e) (search tests)
+returns c = search tests
 
 returns-2 : tie.Need-returns-2
-unfolding startRefusal
-returns-2 c = let e = ap (λ (f : Found). f .answer) (c .before .before .part-row .ensures) in simp (sym e, le-ltb _ _ (c .before .if1 .left), eq-eqb _ _ (c .if2 .taken))
+returns-2 c = simp (le-ltb _ _ (c .before .if1 .left), eq-eqb _ _ (c .if2 .taken))
 
 returns-3 : tie.Need-returns-3
-unfolding startRefusal
-returns-3 c = let e = ap (λ (f : Found). f .answer) (c .before .before .before .part-row .ensures) in simp (sym e, le-ltb _ _ (c .before .before .if1 .left), ne-eqb _ _ (c .before .if2 .left), lt-ltb _ _ (c .if3 .taken))
+returns-3 c = simp (le-ltb _ _ (c .before .before .if1 .left), ne-eqb _ _ (c .before .if2 .left), lt-ltb _ _ (c .if3 .taken))
 
 target-refusal-requires : tie.Need-target-refusal-requires
 target-refusal-requires c κs = search needs
 
 returns-4 : tie.Need-returns-4
-unfolding startRefusal
-returns-4 c = let e = ap (λ (f : Found). f .answer) (c .before .before .before .before .before .part-row .ensures) in
-    let r = ap (λ (f : Found). f .row) (c .before .before .before .before .before .part-row .ensures) in
-    simp (sym e, sym r, le-ltb _ _ (c .before .before .before .before .if1 .left), ne-eqb _ _ (c .before .before .before .if2 .left), le-ltb _ _ (c .before .before .if3 .left)) (c .target-refusal .ensures)
+returns-4 c = simp (le-ltb _ _ (c .before .before .before .before .if1 .left), ne-eqb _ _ (c .before .before .before .if2 .left), le-ltb _ _ (c .before .before .if3 .left)) (c .target-refusal .ensures)
 
 pub start-refusal-spec : {M : Type 1} → statement M
 start-refusal-spec =
-    tie.close
-    (tie.spec part-row-requires returns returns-2 returns-3 target-refusal-requires returns-4)
+    tie.close (tie.spec returns returns-2 returns-3 target-refusal-requires returns-4)

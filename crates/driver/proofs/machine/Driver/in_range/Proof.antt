@@ -5,8 +5,7 @@ use borrow.Author.Needs.{needs}
 use borrow.Author.Tests.{eq-eqb, ne-eqb}
 use Rattle.parts.specs.declared.table.Found.{Found}
 use Rattle.driver.specs.Machine.{inRange}
-use Rattle.driver.proofs.Asked.{asked, begun}
-use Rattle.driver.proofs.Ready.{usual}
+use Rattle.driver.proofs.Asked.{begun, start-found}
 use Rattle.driver.proofs.machine.Driver.in_range.Statement.{statement}
 use Rattle.driver.proofs.machine.Driver.in_range.Tie as tie
 
@@ -15,36 +14,21 @@ start-refusal-requires c κs = search needs
 
 returns : tie.Need-returns
 unfolding inRange
-returns c = simp (sym (c .before .start-refusal .ensures), ne-eqb (c .before .start-refusal .result) 0 (λ z. omega arith))
-
-part-row-requires : tie.Need-part-row-requires
-part-row-requires c κs = search needs
-
-most-polls-requires : tie.Need-most-polls-requires
-most-polls-requires c κs = let z : c .before .before .before .start-refusal .result ≡ 0 = omega arith in
-    let r = ap (λ (f : Found). f .row) (c .before .part-row .ensures) in
-    rw r (usual _ (begun _ _ _ _ _ (sym (c .before .before .before .start-refusal .ensures) ∙ z) .asked .known))
-
-write-count-requires : tie.Need-write-count-requires
-write-count-requires c κs = search needs
+returns c = let h = start-found (c .before .before .args .found) (c .before .before .args .self .part) (c .before .before .args .self .command) (c .before .before .args .self .address) (c .before .before .args .self .«data») (c .before .start-refusal .result) (c .before .before .pre) (c .before .before .args .self .p) (c .before .start-refusal .ensures) in
+    simp (sym h, ne-eqb (c .before .start-refusal .result) 0 (λ z. omega arith))
 
 count-fits-requires : tie.Need-count-fits-requires
-count-fits-requires c κs = search needs
+count-fits-requires c κs = let h = start-found (c .before .before .before .args .found) (c .before .before .before .args .self .part) (c .before .before .before .args .self .command) (c .before .before .before .args .self .address) (c .before .before .before .args .self .«data») (c .before .before .start-refusal .result) (c .before .before .before .pre) (c .before .before .before .args .self .p) (c .before .before .start-refusal .ensures) in
+    let z : c .before .before .start-refusal .result ≡ 0 = omega arith in
+    begun _ _ _ _ _ (sym h ∙ z) .some
 
 returns-2 : tie.Need-returns-2
 unfolding inRange
-returns-2 c = let z : c .before .before .before .before .before .before .start-refusal .result ≡ 0 = omega arith in
-    let r = ap (λ (f : Found). f .row) (c .before .before .before .before .part-row .ensures) in
-    simp (sym (c .before .before .before .before .before .before .start-refusal .ensures), eq-eqb _ _ z, sym r, sym (c .before .write-count .ensures), sym (c .before .before .most-polls .ensures)) (c .count-fits .ensures)
+returns-2 c = let h = start-found (c .before .before .before .before .args .found) (c .before .before .before .before .args .self .part) (c .before .before .before .before .args .self .command) (c .before .before .before .before .args .self .address) (c .before .before .before .before .args .self .«data») (c .before .before .before .start-refusal .result) (c .before .before .before .before .pre) (c .before .before .before .before .args .self .p) (c .before .before .before .start-refusal .ensures) in
+    let z : c .before .before .before .start-refusal .result ≡ 0 = omega arith in
+    let r = ap (λ (f : Found). f .row) (c .before .before .before .before .pre) in
+    simp (sym h, eq-eqb _ _ z, sym r) (c .count-fits .ensures)
 
 pub in-range-spec : {M : Type 1} → statement M
 in-range-spec =
-    tie.close
-    (tie.spec
-    start-refusal-requires
-    returns
-    part-row-requires
-    most-polls-requires
-    write-count-requires
-    count-fits-requires
-    returns-2)
+    tie.close (tie.spec start-refusal-requires returns count-fits-requires returns-2)

@@ -4,40 +4,40 @@ use borrow.Author.Needs.{needs}
 use borrow.Author.Tests.{not-true, not-false}
 use Rattle.parts.specs.declared.table.Found.{Found}
 use Rattle.driver.specs.Machine.{stepOf}
-use Rattle.driver.proofs.Ready.{writing-count, usual-row, narrow-row}
+use Rattle.driver.proofs.Ready.{valid-start, writing-count, usual-row, narrow-row}
 use Rattle.driver.proofs.machine.Driver.step.Statement.{statement}
 use Rattle.driver.proofs.machine.Driver.step.Tie as tie
 
+part-row-requires : tie.Need-part-row-requires
+part-row-requires c κs = search needs
+
 in-range-requires : tie.Need-in-range-requires
-in-range-requires c κs = search needs
+in-range-requires c κs = c .part-row .ensures
 
 returns : tie.Need-returns
 unfolding stepOf
 returns c = simp (sym (c .before .in-range .ensures) ∙ not-true _ (c .if1 .taken))
 
-part-row-requires : tie.Need-part-row-requires
-part-row-requires c κs = search needs
-
 enum-told : tie.Need-enum-told
 enum-told c = search needs
 
 write-on-requires : tie.Need-write-on-requires
-write-on-requires c κs = let t = sym (c .before .before .before .before .before .in-range .ensures) ∙ not-false _ (c .before .before .before .before .if1 .left) in
-    (usual-row (c .before .before .before .before .before .before .args .self) (c .before .before .before .part-row .result .row) t (ap (λ (f : Found). f .row) (c .before .before .before .part-row .ensures)), writing-count (c .before .before .before .before .before .before .args .self) t (c .enum-told .given .1))
+write-on-requires c κs = let t = sym (c .before .before .before .before .in-range .ensures) ∙ not-false _ (c .before .before .before .if1 .left) in
+    (usual-row (c .before .before .before .before .before .before .args .self) (c .before .before .before .before .before .part-row .result .row) t (ap (λ (f : Found). f .row) (c .before .before .before .before .before .part-row .ensures)), writing-count (c .before .before .before .before .before .before .args .self) t (c .enum-told .given .1))
 
 enum-told-2 : tie.Need-enum-told-2
 enum-told-2 c = search needs
 
 poll-on-requires : tie.Need-poll-on-requires
-poll-on-requires c κs = let t = sym (c .before .before .before .before .before .in-range .ensures) ∙ not-false _ (c .before .before .before .before .if1 .left) in
-    usual-row (c .before .before .before .before .before .before .args .self) (c .before .before .before .part-row .result .row) t (ap (λ (f : Found). f .row) (c .before .before .before .part-row .ensures))
+poll-on-requires c κs = let t = sym (c .before .before .before .before .in-range .ensures) ∙ not-false _ (c .before .before .before .if1 .left) in
+    (usual-row (c .before .before .before .before .before .before .args .self) (c .before .before .before .before .before .part-row .result .row) t (ap (λ (f : Found). f .row) (c .before .before .before .before .before .part-row .ensures)), valid-start (c .before .before .before .before .before .before .args .self) t .some)
 
 enum-told-3 : tie.Need-enum-told-3
 enum-told-3 c = search needs
 
 compare-requires : tie.Need-compare-requires
-compare-requires c κs = let t = sym (c .before .before .before .before .before .in-range .ensures) ∙ not-false _ (c .before .before .before .before .if1 .left) in
-    narrow-row (c .before .before .before .before .before .before .args .self) (c .before .before .before .part-row .result .row) t (ap (λ (f : Found). f .row) (c .before .before .before .part-row .ensures))
+compare-requires c κs = let t = sym (c .before .before .before .before .in-range .ensures) ∙ not-false _ (c .before .before .before .if1 .left) in
+    narrow-row (c .before .before .before .before .before .before .args .self) (c .before .before .before .before .before .part-row .result .row) t (ap (λ (f : Found). f .row) (c .before .before .before .before .before .part-row .ensures))
 
 enum-told-4 : tie.Need-enum-told-4
 enum-told-4 c = search needs
@@ -59,38 +59,38 @@ end-requires-3 c κs = search needs
 
 returns-2 : tie.Need-returns-2
 unfolding stepOf
-returns-2 c = let r = ap (λ (f : Found). f .row) (c .before .before .before .before .part-row .ensures) in
-    simp (sym (c .before .before .before .before .before .before .in-range .ensures) ∙ not-false _ (c .before .before .before .before .before .if1 .left), c .before .enum-told .given .1, sym r) (c .write-on .ensures)
+returns-2 c = let r = ap (λ (f : Found). f .row) (c .before .before .before .before .before .before .part-row .ensures) in
+    simp (sym (c .before .before .before .before .before .in-range .ensures) ∙ not-false _ (c .before .before .before .before .if1 .left), c .before .enum-told .given .1, sym r) (c .write-on .ensures)
 
 returns-3 : tie.Need-returns-3
 unfolding stepOf
-returns-3 c = let r = ap (λ (f : Found). f .row) (c .before .before .before .before .part-row .ensures) in
-    simp (sym (c .before .before .before .before .before .before .in-range .ensures) ∙ not-false _ (c .before .before .before .before .before .if1 .left), c .before .enum-told2 .given .1, sym r) (c .poll-on .ensures)
+returns-3 c = let r = ap (λ (f : Found). f .row) (c .before .before .before .before .before .before .part-row .ensures) in
+    simp (sym (c .before .before .before .before .before .in-range .ensures) ∙ not-false _ (c .before .before .before .before .if1 .left), c .before .enum-told2 .given .1, sym r) (c .poll-on .ensures)
 
 returns-4 : tie.Need-returns-4
 unfolding stepOf
-returns-4 c = let r = ap (λ (f : Found). f .row) (c .before .before .before .before .part-row .ensures) in
-    simp (sym (c .before .before .before .before .before .before .in-range .ensures) ∙ not-false _ (c .before .before .before .before .before .if1 .left), c .before .enum-told3 .given .1, sym r) (c .compare .ensures)
+returns-4 c = let r = ap (λ (f : Found). f .row) (c .before .before .before .before .before .before .part-row .ensures) in
+    simp (sym (c .before .before .before .before .before .in-range .ensures) ∙ not-false _ (c .before .before .before .before .if1 .left), c .before .enum-told3 .given .1, sym r) (c .compare .ensures)
 
 returns-5 : tie.Need-returns-5
 unfolding stepOf
-returns-5 c = simp (sym (c .before .before .before .before .before .before .in-range .ensures) ∙ not-false _ (c .before .before .before .before .before .if1 .left), c .before .enum-told4 .given .1) (c .end .ensures)
+returns-5 c = simp (sym (c .before .before .before .before .before .in-range .ensures) ∙ not-false _ (c .before .before .before .before .if1 .left), c .before .enum-told4 .given .1) (c .end .ensures)
 
 returns-6 : tie.Need-returns-6
 unfolding stepOf
-returns-6 c = simp (sym (c .before .before .before .before .before .before .in-range .ensures) ∙ not-false _ (c .before .before .before .before .before .if1 .left), c .before .enum-told5 .given .1) (c .end2 .ensures)
+returns-6 c = simp (sym (c .before .before .before .before .before .in-range .ensures) ∙ not-false _ (c .before .before .before .before .if1 .left), c .before .enum-told5 .given .1) (c .end2 .ensures)
 
 returns-7 : tie.Need-returns-7
 unfolding stepOf
-returns-7 c = simp (sym (c .before .before .before .before .before .before .in-range .ensures) ∙ not-false _ (c .before .before .before .before .before .if1 .left), c .before .enum-told6 .given .1) (c .end3 .ensures)
+returns-7 c = simp (sym (c .before .before .before .before .before .in-range .ensures) ∙ not-false _ (c .before .before .before .before .if1 .left), c .before .enum-told6 .given .1) (c .end3 .ensures)
 
 pub step-spec : {M : Type 1} → statement M
 step-spec =
     tie.close
     (tie.spec
+    part-row-requires
     in-range-requires
     returns
-    part-row-requires
     enum-told
     write-on-requires
     enum-told-2
