@@ -5,11 +5,8 @@ use Rattle.parts.specs.declared.figure.Figure.{Figure}
 use Rattle.station.proofs.station_figure.Statement.{statement}
 use Rattle.station.proofs.station_figure.Tie as tie
 
-part-figure-requires : tie.Need-part-figure-requires
-part-figure-requires c κs = search needs
-
 returns : tie.Need-returns
 returns c = ap (λ (f : Figure). f .value) (c .part-figure .ensures)
 
 pub station-figure-spec : {M : Type 1} → statement M
-station-figure-spec = tie.close (tie.spec part-figure-requires returns)
+station-figure-spec = tie.close (tie.spec (λ c κs. search needs) returns)

@@ -5,11 +5,8 @@ use Rattle.parts.specs.declared.figure.Figure.{Figure}
 use Rattle.station.proofs.station_figure_answer.Statement.{statement}
 use Rattle.station.proofs.station_figure_answer.Tie as tie
 
-part-figure-requires : tie.Need-part-figure-requires
-part-figure-requires c κs = search needs
-
 returns : tie.Need-returns
 returns c = ap (λ (f : Figure). f .answer) (c .part-figure .ensures)
 
 pub station-figure-answer-spec : {M : Type 1} → statement M
-station-figure-answer-spec = tie.close (tie.spec part-figure-requires returns)
+station-figure-answer-spec = tie.close (tie.spec (λ c κs. search needs) returns)

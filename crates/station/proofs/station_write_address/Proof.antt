@@ -5,11 +5,8 @@ use Rattle.driver.specs.declared.writes.Kth.{Kth}
 use Rattle.station.proofs.station_write_address.Statement.{statement}
 use Rattle.station.proofs.station_write_address.Tie as tie
 
-kth-write-requires : tie.Need-kth-write-requires
-kth-write-requires c κs = search needs
-
 returns : tie.Need-returns
 returns c = ap (λ (w : Kth). w .address) (c .kth-write .ensures)
 
 pub station-write-address-spec : {M : Type 1} → statement M
-station-write-address-spec = tie.close (tie.spec kth-write-requires returns)
+station-write-address-spec = tie.close (tie.spec (λ c κs. search needs) returns)

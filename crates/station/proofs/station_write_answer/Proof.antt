@@ -5,11 +5,8 @@ use Rattle.driver.specs.declared.writes.Kth.{Kth}
 use Rattle.station.proofs.station_write_answer.Statement.{statement}
 use Rattle.station.proofs.station_write_answer.Tie as tie
 
-kth-write-requires : tie.Need-kth-write-requires
-kth-write-requires c κs = search needs
-
 returns : tie.Need-returns
 returns c = ap (λ (w : Kth). w .answer) (c .kth-write .ensures)
 
 pub station-write-answer-spec : {M : Type 1} → statement M
-station-write-answer-spec = tie.close (tie.spec kth-write-requires returns)
+station-write-answer-spec = tie.close (tie.spec (λ c κs. search needs) returns)

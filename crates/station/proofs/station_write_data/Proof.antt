@@ -5,11 +5,8 @@ use Rattle.driver.specs.declared.writes.Kth.{Kth}
 use Rattle.station.proofs.station_write_data.Statement.{statement}
 use Rattle.station.proofs.station_write_data.Tie as tie
 
-kth-write-requires : tie.Need-kth-write-requires
-kth-write-requires c κs = search needs
-
 returns : tie.Need-returns
 returns c = ap (λ (w : Kth). w .«data») (c .kth-write .ensures)
 
 pub station-write-data-spec : {M : Type 1} → statement M
-station-write-data-spec = tie.close (tie.spec kth-write-requires returns)
+station-write-data-spec = tie.close (tie.spec (λ c κs. search needs) returns)

@@ -8,32 +8,8 @@ use Rattle.chip.proofs.Settled.{read-cells}
 use Rattle.chip.proofs.cycle.act.Statement.{statement}
 use Rattle.chip.proofs.cycle.act.Tie as tie
 
-enum-known-action : tie.Need-enum-known-action
-enum-known-action c = search needs
-
 read-cycle-requires : tie.Need-read-cycle-requires
 read-cycle-requires c κs = (c .before .before .before .before .before .pre .0, omega (arith, read-there (c .before .before .before .before .before .args .row) (c .before .before .action .given .0 .0) (ap (actionRefusal (c .before .before .before .before .before .args .row)) (sym (c .before .before .action .given .1)) ∙ c .before .before .before .before .before .pre .1 .1 .1), c .before .before .before .before .before .pre .1 .1 .0))
-
-enum-known-action-2 : tie.Need-enum-known-action-2
-enum-known-action-2 c = search needs
-
-write-cycle-requires : tie.Need-write-cycle-requires
-write-cycle-requires c κs = search needs
-
-enum-told : tie.Need-enum-told
-enum-told c = search needs
-
-enum-known-action-3 : tie.Need-enum-known-action-3
-enum-known-action-3 c = search needs
-
-cut-cycle-requires : tie.Need-cut-cycle-requires
-cut-cycle-requires c κs = search needs
-
-fresh-requires : tie.Need-fresh-requires
-fresh-requires c κs = search needs
-
-same-length : tie.Need-same-length
-same-length c = search needs
 
 returns : tie.Need-returns
 returns c = simp (c .before .before .before .action .given .1) (c .read-cycle .ensures, sym (read-cells _ _ _ _))
@@ -45,9 +21,6 @@ returns-2 c = simp (c .before .before .action2 .given .1, c .write-cycle .ensure
 returns-3 : tie.Need-returns-3
 returns-3 c = simp (c .enum-told .given .1) (refl, refl)
 
-same-length-2 : tie.Need-same-length-2
-same-length-2 c = search needs
-
 returns-4 : tie.Need-returns-4
 unfolding cutOf
 returns-4 c = simp (c .before .before .before .before .before .before .action3 .given .1, c .fresh .ensures) (refl, c .before .before .before .cut-cycle .ensures)
@@ -56,17 +29,17 @@ pub act-spec : {M : Type 1} → statement M
 act-spec =
     tie.close
     (tie.spec
-    enum-known-action
+    (λ c. search needs)
     read-cycle-requires
-    enum-known-action-2
-    write-cycle-requires
-    enum-told
-    enum-known-action-3
-    cut-cycle-requires
-    fresh-requires
-    same-length
+    (λ c. search needs)
+    (λ c κs. search needs)
+    (λ c. search needs)
+    (λ c. search needs)
+    (λ c κs. search needs)
+    (λ c κs. search needs)
+    (λ c. search needs)
     returns
     returns-2
     returns-3
-    same-length-2
+    (λ c. search needs)
     returns-4)

@@ -4,24 +4,6 @@ use Rattle.chip.specs.Cycle.{actionRefusal}
 use Rattle.chip.proofs.cycle.action_refusal.Statement.{statement}
 use Rattle.chip.proofs.cycle.action_refusal.Tie as tie
 
-enum-known-action : tie.Need-enum-known-action
-enum-known-action c = search needs
-
-read-refusal-requires : tie.Need-read-refusal-requires
-read-refusal-requires c κs = search needs
-
-enum-known-action-2 : tie.Need-enum-known-action-2
-enum-known-action-2 c = search needs
-
-write-refusal-requires : tie.Need-write-refusal-requires
-write-refusal-requires c κs = search needs
-
-enum-told : tie.Need-enum-told
-enum-told c = search needs
-
-enum-told-2 : tie.Need-enum-told-2
-enum-told-2 c = search needs
-
 returns : tie.Need-returns
 unfolding actionRefusal
 returns c = simp (c .before .before .action .given .1) (c .read-refusal .ensures)
@@ -42,12 +24,12 @@ pub action-refusal-spec : {M : Type 1} → statement M
 action-refusal-spec =
     tie.close
     (tie.spec
-    enum-known-action
-    read-refusal-requires
-    enum-known-action-2
-    write-refusal-requires
-    enum-told
-    enum-told-2
+    (λ c. search needs)
+    (λ c κs. search needs)
+    (λ c. search needs)
+    (λ c κs. search needs)
+    (λ c. search needs)
+    (λ c. search needs)
     returns
     returns-2
     returns-3

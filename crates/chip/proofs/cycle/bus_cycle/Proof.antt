@@ -9,15 +9,9 @@ use Rattle.chip.proofs.Settled.{ready-settle, ready-act, whole-cycle}
 use Rattle.chip.proofs.cycle.bus_cycle.Statement.{statement}
 use Rattle.chip.proofs.cycle.bus_cycle.Tie as tie
 
-cycle-refusal-requires : tie.Need-cycle-refusal-requires
-cycle-refusal-requires c κs = search needs
-
 returns : tie.Need-returns
 unfolding cycleOf
 returns c = let n : c .before .cycle-refusal .result ≡ 0 → ⊥ = λ e. omega arith in simp (sym (c .before .cycle-refusal .ensures), ne-eqb (c .before .cycle-refusal .result) 0 n) (refl, refl)
-
-part-row-requires : tie.Need-part-row-requires
-part-row-requires c κs = search needs
 
 settle-requires : tie.Need-settle-requires
 settle-requires c κs = let g = c .before .before .before .before .before .before .args in
@@ -29,9 +23,6 @@ act-requires c κs = let g = c .before .before .before .before .before .before .
     let z : c .before .before .before .before .before .before .before .before .cycle-refusal .result ≡ 0 = omega arith in
     ready-act (g .part) (c .before .before .before .before .before .before .part-row .result .row) (g .cells .now) (c .before .before .before .settle .last .0) (g .device) (c .before .before .before .settle .result) (g .cycle) (ap (λ (f : Found). f .row) (c .before .before .before .before .before .before .part-row .ensures)) (sym (c .before .before .before .before .before .before .before .before .cycle-refusal .ensures) ∙ z) (c .before .before .before .settle .ensures .0) (c .before .before .before .settle .ensures .1)
 
-same-length : tie.Need-same-length
-same-length c = search needs
-
 returns-2 : tie.Need-returns-2
 returns-2 c = let g = c .before .before .before .before .before .before .before .before .before .before .before .before .before .args in
     let z : c .before .before .before .before .before .before .before .before .before .before .before .cycle-refusal .result ≡ 0 = omega arith in
@@ -42,10 +33,10 @@ pub bus-cycle-spec : {M : Type 1} → statement M
 bus-cycle-spec =
     tie.close
     (tie.spec
-    cycle-refusal-requires
+    (λ c κs. search needs)
     returns
-    part-row-requires
+    (λ c κs. search needs)
     settle-requires
     act-requires
-    same-length
+    (λ c. search needs)
     returns-2)

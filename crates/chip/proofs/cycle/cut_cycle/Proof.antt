@@ -7,9 +7,6 @@ use Rattle.chip.proofs.cycle.cut_cycle.Tie as tie
 cut-short-requires : tie.Need-cut-short-requires
 cut-short-requires c κs = c .before .before .before .before .before .pre .within (lt-ltb 0 _ (c .before .if1 .taken))
 
-same-length : tie.Need-same-length
-same-length c = search needs
-
 returns : tie.Need-returns
 returns c = simp (lt-ltb 0 _ (c .before .before .before .before .if1 .taken)) (c .before .before .cut-short .ensures)
 
@@ -17,4 +14,4 @@ returns-2 : tie.Need-returns-2
 returns-2 c = simp (le-ltb _ _ (c .if1 .left))
 
 pub cut-cycle-spec : {M : Type 1} → statement M
-cut-cycle-spec = tie.close (tie.spec cut-short-requires same-length returns returns-2)
+cut-cycle-spec = tie.close (tie.spec cut-short-requires (λ c. search needs) returns returns-2)

@@ -7,21 +7,9 @@ use Rattle.chip.specs.Cycle.{cycleRefusal}
 use Rattle.chip.proofs.cycle.cycle_refusal.Statement.{statement}
 use Rattle.chip.proofs.cycle.cycle_refusal.Tie as tie
 
-part-row-requires : tie.Need-part-row-requires
-part-row-requires c κs = search needs
-
 returns : tie.Need-returns
 unfolding cycleRefusal
 returns c = let e = ap (λ (f : Found). f .answer) (c .before .part-row .ensures) in simp (sym e, lt-ltb _ _ (c .if1 .taken))
-
-cast-if2 : tie.Need-cast-if2
-cast-if2 c = search needs
-
-in-range-requires : tie.Need-in-range-requires
-in-range-requires c κs = search needs
-
-action-refusal-requires : tie.Need-action-refusal-requires
-action-refusal-requires c κs = search needs
 
 returns-2 : tie.Need-returns-2
 unfolding cycleRefusal
@@ -45,11 +33,11 @@ pub cycle-refusal-spec : {M : Type 1} → statement M
 cycle-refusal-spec =
     tie.close
     (tie.spec
-    part-row-requires
+    (λ c κs. search needs)
     returns
-    cast-if2
-    in-range-requires
-    action-refusal-requires
+    (λ c. search needs)
+    (λ c κs. search needs)
+    (λ c κs. search needs)
     returns-2
     returns-3
     returns-4)

@@ -5,18 +5,9 @@ use Rattle.parts.proofs.Rules.{tests}
 use Rattle.chip.proofs.cycle.read_cycle.Statement.{statement}
 use Rattle.chip.proofs.cycle.read_cycle.Tie as tie
 
-busy-status-requires : tie.Need-busy-status-requires
-busy-status-requires c κs = search needs
-
-toggled-device-requires : tie.Need-toggled-device-requires
-toggled-device-requires c κs = search needs
-
 returns : tie.Need-returns
 unfolding readOf
 returns c = simp (c .before .busy-status .ensures, c .toggled-device .ensures) (search tests)
-
-shown-requires : tie.Need-shown-requires
-shown-requires c κs = search needs
 
 returns-2 : tie.Need-returns-2
 unfolding readOf
@@ -25,4 +16,4 @@ returns-2 c = simp (c .shown .ensures) (search tests)
 pub read-cycle-spec : {M : Type 1} → statement M
 read-cycle-spec =
     tie.close
-    (tie.spec busy-status-requires toggled-device-requires returns shown-requires returns-2)
+    (tie.spec (λ c κs. search needs) (λ c κs. search needs) returns (λ c κs. search needs) returns-2)

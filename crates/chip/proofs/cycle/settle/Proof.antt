@@ -10,12 +10,6 @@ returns : tie.Need-returns
 unfolding settledOf
 returns c = simp (le-ltb _ _ (c .if1 .taken)) (refl, refl)
 
-sub-with-left : tie.Need-sub-with-left
-sub-with-left c = search needs
-
-with-left-requires : tie.Need-with-left-requires
-with-left-requires c κs = search needs
-
 returns-2 : tie.Need-returns-2
 unfolding settledOf
 returns-2 c = simp (lt-ltb 0 _ (c .before .before .if1 .left), lt-ltb _ _ (c .before .if2 .taken)) (c .with-left .ensures, refl)
@@ -23,12 +17,6 @@ returns-2 c = simp (lt-ltb 0 _ (c .before .before .if1 .left), lt-ltb _ _ (c .be
 complete-requires : tie.Need-complete-requires
 unfolding settledOf
 complete-requires c κs = (c .before .before .before .before .before .pre .1 .within (lt-ltb 0 _ (c .before .before .if1 .left)), c .before .before .before .before .before .pre .0)
-
-no-operation-requires : tie.Need-no-operation-requires
-no-operation-requires c κs = search needs
-
-same-length : tie.Need-same-length
-same-length c = search needs
 
 returns-3 : tie.Need-returns-3
 unfolding settledOf
@@ -39,10 +27,10 @@ settle-spec =
     tie.close
     (tie.spec
     returns
-    sub-with-left
-    with-left-requires
+    (λ c. search needs)
+    (λ c κs. search needs)
     returns-2
     complete-requires
-    no-operation-requires
-    same-length
+    (λ c κs. search needs)
+    (λ c. search needs)
     returns-3)

@@ -3,24 +3,6 @@ use borrow.Author.Needs.{needs}
 use Rattle.chip.proofs.cycle.shown.Statement.{statement}
 use Rattle.chip.proofs.cycle.shown.Tie as tie
 
-enum-told : tie.Need-enum-told
-enum-told c = search needs
-
-mul-value : tie.Need-mul-value
-mul-value c = search needs
-
-shared-slice-read-value : tie.Need-shared-slice-read-value
-shared-slice-read-value c = search needs
-
-value-requires : tie.Need-value-requires
-value-requires c κs = search needs
-
-enum-told-2 : tie.Need-enum-told-2
-enum-told-2 c = search needs
-
-identity-at-requires : tie.Need-identity-at-requires
-identity-at-requires c κs = search needs
-
 returns : tie.Need-returns
 returns c = simp (c .before .before .enum-told .given .1) (c .value .ensures)
 
@@ -31,11 +13,11 @@ pub shown-spec : {M : Type 1} → statement M
 shown-spec =
     tie.close
     (tie.spec
-    enum-told
-    mul-value
-    shared-slice-read-value
-    value-requires
-    enum-told-2
-    identity-at-requires
+    (λ c. search needs)
+    (λ c. search needs)
+    (λ c. search needs)
+    (λ c κs. search needs)
+    (λ c. search needs)
+    (λ c κs. search needs)
     returns
     returns-2)

@@ -7,11 +7,8 @@ use Rattle.chip.proofs.cycle.write_cycle.Tie as tie
 returns : tie.Need-returns
 returns c = search tests
 
-written-requires : tie.Need-written-requires
-written-requires c κs = search needs
-
 returns-2 : tie.Need-returns-2
 returns-2 c = simp (c .written .ensures) (search tests)
 
 pub write-cycle-spec : {M : Type 1} → statement M
-write-cycle-spec = tie.close (tie.spec returns written-requires returns-2)
+write-cycle-spec = tie.close (tie.spec returns (λ c κs. search needs) returns-2)

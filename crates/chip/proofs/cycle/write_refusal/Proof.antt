@@ -6,9 +6,6 @@ use Rattle.parts.proofs.Rules.{tests}
 use Rattle.chip.proofs.cycle.write_refusal.Statement.{statement}
 use Rattle.chip.proofs.cycle.write_refusal.Tie as tie
 
-fits-requires : tie.Need-fits-requires
-fits-requires c κs = search needs
-
 returns : tie.Need-returns
 unfolding actionRefusal
 returns c = simp (sym (c .before .fits2 .ensures) ∙ c .if2 .taken) (search tests)
@@ -22,4 +19,4 @@ unfolding actionRefusal
 returns-3 c = search tests
 
 pub write-refusal-spec : {M : Type 1} → statement M
-write-refusal-spec = tie.close (tie.spec fits-requires returns returns-2 returns-3)
+write-refusal-spec = tie.close (tie.spec (λ c κs. search needs) returns returns-2 returns-3)

@@ -18,12 +18,6 @@ returns-3 : tie.Need-returns-3
 unfolding inRange
 returns-3 c = search tests
 
-reads-cells-requires : tie.Need-reads-cells-requires
-reads-cells-requires c κs = search needs
-
-valid-operation-requires : tie.Need-valid-operation-requires
-valid-operation-requires c κs = search needs
-
 returns-4 : tie.Need-returns-4
 unfolding inRange
 returns-4 c = simp (sym (c .before .before .reads-cells .ensures) ∙ c .before .if4 .taken, c .valid-operation .ensures) (search tests)
@@ -39,7 +33,7 @@ in-range-spec =
     returns
     returns-2
     returns-3
-    reads-cells-requires
-    valid-operation-requires
+    (λ c κs. search needs)
+    (λ c κs. search needs)
     returns-4
     returns-5)

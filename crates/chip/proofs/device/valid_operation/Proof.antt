@@ -7,22 +7,13 @@ use Rattle.parts.proofs.Rules.{tests}
 use Rattle.chip.proofs.device.valid_operation.Statement.{statement}
 use Rattle.chip.proofs.device.valid_operation.Tie as tie
 
-has-command-requires : tie.Need-has-command-requires
-has-command-requires c κs = search needs
-
 returns : tie.Need-returns
 unfolding validOperation
 returns c = simp (sym (c .before .has-command .ensures) ∙ not-true _ (c .if1 .taken))
 
-time-requires : tie.Need-time-requires
-time-requires c κs = search needs
-
 returns-2 : tie.Need-returns-2
 unfolding validOperation
 returns-2 c = simp (sym (c .before .before .before .before .has-command .ensures) ∙ not-false _ (c .before .before .before .if1 .left), sym (c .before .before .time .ensures)) (search tests)
-
-fits-requires : tie.Need-fits-requires
-fits-requires c κs = search needs
 
 returns-3 : tie.Need-returns-3
 unfolding validOperation
@@ -36,10 +27,10 @@ pub valid-operation-spec : {M : Type 1} → statement M
 valid-operation-spec =
     tie.close
     (tie.spec
-    has-command-requires
+    (λ c κs. search needs)
     returns
-    time-requires
+    (λ c κs. search needs)
     returns-2
-    fits-requires
+    (λ c κs. search needs)
     returns-3
     returns-4)

@@ -9,15 +9,9 @@ returns : tie.Need-returns
 unfolding cellsOf
 returns c = search tests
 
-sector-of-requires : tie.Need-sector-of-requires
-sector-of-requires c κs = search needs
-
 returns-2 : tie.Need-returns-2
 unfolding cellsOf
 returns-2 c = search tests
-
-block-of-requires : tie.Need-block-of-requires
-block-of-requires c κs = search needs
 
 returns-3 : tie.Need-returns-3
 unfolding cellsOf
@@ -29,4 +23,4 @@ returns-4 c = search tests
 
 pub cells-of-spec : {M : Type 1} → statement M
 cells-of-spec =
-    tie.close (tie.spec returns sector-of-requires returns-2 block-of-requires returns-3 returns-4)
+    tie.close (tie.spec returns (λ c κs. search needs) returns-2 (λ c κs. search needs) returns-3 returns-4)

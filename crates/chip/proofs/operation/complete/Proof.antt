@@ -12,23 +12,11 @@ use Rattle.parts.proofs.Values.{blank-word}
 use Rattle.chip.proofs.operation.complete.Statement.{statement}
 use Rattle.chip.proofs.operation.complete.Tie as tie
 
-cast-at : tie.Need-cast-at
-cast-at c = search needs
-
-mul-cells : tie.Need-mul-cells
-mul-cells c = search needs
-
 slice-read-cells : tie.Need-slice-read-cells
 slice-read-cells c = program-there (c .before .before .before .before .before .args .row) (c .before .before .before .before .before .args .o) _ (c .before .before .if1 .taken) (c .before .before .before .before .before .pre .0)
 
-mul-cells-2 : tie.Need-mul-cells-2
-mul-cells-2 c = search needs
-
 slice-write-cells : tie.Need-slice-write-cells
 slice-write-cells c = program-there (c .before .before .before .before .before .before .args .row) (c .before .before .before .before .before .before .args .o) _ (c .before .before .before .if1 .taken) (c .before .before .before .before .before .before .pre .0)
-
-same-length : tie.Need-same-length
-same-length c = search needs
 
 returns : tie.Need-returns
 unfolding completeOn
@@ -36,38 +24,8 @@ returns c = let g = c .before .before .before .before .before .before .args in
     ap (set (g .cells .now) (g .o .address)) (finished-program (g .row) (g .o) (getD (g .cells .now) (g .o .address) 0) (c .before .before .before .if1 .taken))
     ∙ stored (finished (g .row) (g .o)) (g .row) (g .o) (g .cells .now) (c .before .before .before .if1 .taken) (c .before .before .before .before .before .before .pre .0)
 
-cells-of-requires : tie.Need-cells-of-requires
-cells-of-requires c κs = search needs
-
-cast-first : tie.Need-cast-first
-cast-first c = search needs
-
-cast-end : tie.Need-cast-end
-cast-end c = search needs
-
-add-end : tie.Need-add-end
-add-end c = search needs
-
-mul-fill : tie.Need-mul-fill
-mul-fill c = search needs
-
-sub-fill : tie.Need-sub-fill
-sub-fill c = search needs
-
-part-fill-start : tie.Need-part-fill-start
-part-fill-start c = search needs
-
 part-fill-end : tie.Need-part-fill-end
 part-fill-end c = omega (arith, c .before .before .before .before .before .before .pre .0, ap (λ (s : Span). s .first) (c .before .before .cells-of .ensures), ap (λ (s : Span). s .count) (c .before .before .cells-of .ensures))
-
-blank-requires : tie.Need-blank-requires
-blank-requires c κs = search needs
-
-fill-requires : tie.Need-fill-requires
-fill-requires c κs = search needs
-
-same-length-2 : tie.Need-same-length-2
-same-length-2 c = search needs
 
 returns-2 : tie.Need-returns-2
 unfolding completeOn
@@ -82,22 +40,22 @@ pub complete-spec : {M : Type 1} → statement M
 complete-spec =
     tie.close
     (tie.spec
-    cast-at
-    mul-cells
+    (λ c. search needs)
+    (λ c. search needs)
     slice-read-cells
-    mul-cells-2
+    (λ c. search needs)
     slice-write-cells
-    same-length
+    (λ c. search needs)
     returns
-    cells-of-requires
-    cast-first
-    cast-end
-    add-end
-    mul-fill
-    sub-fill
-    part-fill-start
+    (λ c κs. search needs)
+    (λ c. search needs)
+    (λ c. search needs)
+    (λ c. search needs)
+    (λ c. search needs)
+    (λ c. search needs)
+    (λ c. search needs)
     part-fill-end
-    blank-requires
-    fill-requires
-    same-length-2
+    (λ c κs. search needs)
+    (λ c κs. search needs)
+    (λ c. search needs)
     returns-2)

@@ -12,26 +12,11 @@ use Rattle.chip.proofs.Leaves.{program-there, stored, came-back, map-sa
 use Rattle.chip.proofs.operation.cut_short.Statement.{statement}
 use Rattle.chip.proofs.operation.cut_short.Tie as tie
 
-value-requires : tie.Need-value-requires
-value-requires c κs = search needs
-
-cast-at : tie.Need-cast-at
-cast-at c = search needs
-
-mul-cells : tie.Need-mul-cells
-mul-cells c = search needs
-
 slice-read-cells : tie.Need-slice-read-cells
 slice-read-cells c = program-there (c .before .before .before .before .before .before .args .row) (c .before .before .before .before .before .before .args .o) _ (c .before .before .if1 .taken) (c .before .before .before .before .before .before .pre)
 
-mul-cells-2 : tie.Need-mul-cells-2
-mul-cells-2 c = search needs
-
 slice-write-cells : tie.Need-slice-write-cells
 slice-write-cells c = program-there (c .before .before .before .before .before .before .before .args .row) (c .before .before .before .before .before .before .before .args .o) _ (c .before .before .before .if1 .taken) (c .before .before .before .before .before .before .before .pre)
-
-same-length : tie.Need-same-length
-same-length c = search needs
 
 returns : tie.Need-returns
 unfolding cutOn
@@ -39,35 +24,8 @@ returns c = let g = c .before .before .before .before .before .before .before .a
     ap (set (g .cells .now) (g .o .address)) (scarred-program (g .row) (g .o) (getD (g .cells .now) (g .o .address) 0) (g .scar) (c .before .before .before .before .before .value .result) (c .before .before .before .before .before .value .ensures) (c .before .before .before .if1 .taken))
     ∙ stored (scarred (g .row) (g .o) (g .scar)) (g .row) (g .o) (g .cells .now) (c .before .before .before .if1 .taken) (c .before .before .before .before .before .before .before .pre)
 
-cells-of-requires : tie.Need-cells-of-requires
-cells-of-requires c κs = search needs
-
-cast-first : tie.Need-cast-first
-cast-first c = search needs
-
-cast-end : tie.Need-cast-end
-cast-end c = search needs
-
-add-end : tie.Need-add-end
-add-end c = search needs
-
-mul-scar-each : tie.Need-mul-scar-each
-mul-scar-each c = search needs
-
-sub-scar-each : tie.Need-sub-scar-each
-sub-scar-each c = search needs
-
-part-scar-each-start : tie.Need-part-scar-each-start
-part-scar-each-start c = search needs
-
 part-scar-each-end : tie.Need-part-scar-each-end
 part-scar-each-end c = omega (arith, c .before .before .before .before .before .before .before .pre, ap (λ (s : Span). s .first) (c .before .before .cells-of .ensures), ap (λ (s : Span). s .count) (c .before .before .cells-of .ensures))
-
-scar-each-requires : tie.Need-scar-each-requires
-scar-each-requires c κs = search needs
-
-same-length-2 : tie.Need-same-length-2
-same-length-2 c = search needs
 
 returns-2 : tie.Need-returns-2
 unfolding cutOn
@@ -82,22 +40,22 @@ pub cut-short-spec : {M : Type 1} → statement M
 cut-short-spec =
     tie.close
     (tie.spec
-    value-requires
-    cast-at
-    mul-cells
+    (λ c κs. search needs)
+    (λ c. search needs)
+    (λ c. search needs)
     slice-read-cells
-    mul-cells-2
+    (λ c. search needs)
     slice-write-cells
-    same-length
+    (λ c. search needs)
     returns
-    cells-of-requires
-    cast-first
-    cast-end
-    add-end
-    mul-scar-each
-    sub-scar-each
-    part-scar-each-start
+    (λ c κs. search needs)
+    (λ c. search needs)
+    (λ c. search needs)
+    (λ c. search needs)
+    (λ c. search needs)
+    (λ c. search needs)
+    (λ c. search needs)
     part-scar-each-end
-    scar-each-requires
-    same-length-2
+    (λ c κs. search needs)
+    (λ c. search needs)
     returns-2)

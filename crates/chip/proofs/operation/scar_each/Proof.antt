@@ -15,35 +15,8 @@ Inv-loop cells₀ width scar at₀ cells at = (at ≤ length cells₀) × ((leng
 abbrev μ-loop : tie.MeasureT-loop
 μ-loop cells₀ width scar at₀ cells at = length cells₀ - at
 
-loop-holds : tie.Need-loop-holds Inv-loop μ-loop
-loop-holds c = search needs
-
-mul-value : tie.Need-mul-value Inv-loop μ-loop
-mul-value c = search needs
-
-slice-read-value : tie.Need-slice-read-value Inv-loop μ-loop
-slice-read-value c = search needs
-
-value-requires : tie.Need-value-requires Inv-loop μ-loop
-value-requires c κs = search needs
-
-mul-cells : tie.Need-mul-cells Inv-loop μ-loop
-mul-cells c = search needs
-
-slice-write-cells : tie.Need-slice-write-cells Inv-loop μ-loop
-slice-write-cells c = search needs
-
-add-at : tie.Need-add-at Inv-loop μ-loop
-add-at c = search needs
-
-loop-less : tie.Need-loop-less Inv-loop μ-loop
-loop-less c = search needs
-
 loop-again : tie.Need-loop-again Inv-loop μ-loop
 loop-again c = (search needs, (search needs, rw (c .value .ensures) (reached-step (λ x. bitOr (valueOf (c .before .before .before .before .before .args .width) x) (c .before .before .before .before .before .args .scar)) _ (c .before .before .before .before .before .args .cells .now) (c .before .before .before .loop .at) (c .before .before .before .loop .inv .1 .1) (search needs))))
-
-same-length : tie.Need-same-length Inv-loop μ-loop
-same-length c = search needs
 
 returns : tie.Need-returns Inv-loop μ-loop
 returns c = c .before .loop .inv .1 .1 ∙ reached-all (λ x. bitOr (valueOf (c .before .before .before .args .width) x) (c .before .before .before .args .scar)) (c .before .before .before .args .cells .now) (c .before .loop .at) (search needs)
@@ -54,14 +27,14 @@ scar-each-spec =
     (tie.spec
     Inv-loop
     μ-loop
-    loop-holds
-    mul-value
-    slice-read-value
-    value-requires
-    mul-cells
-    slice-write-cells
-    add-at
-    loop-less
+    (λ c. search needs)
+    (λ c. search needs)
+    (λ c. search needs)
+    (λ c κs. search needs)
+    (λ c. search needs)
+    (λ c. search needs)
+    (λ c. search needs)
+    (λ c. search needs)
     loop-again
-    same-length
+    (λ c. search needs)
     returns)

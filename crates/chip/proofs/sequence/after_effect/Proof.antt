@@ -3,24 +3,6 @@ use borrow.Author.Needs.{needs}
 use Rattle.chip.proofs.sequence.after_effect.Statement.{statement}
 use Rattle.chip.proofs.sequence.after_effect.Tie as tie
 
-enum-known-effect : tie.Need-enum-known-effect
-enum-known-effect c = search needs
-
-enum-known-effect-2 : tie.Need-enum-known-effect-2
-enum-known-effect-2 c = search needs
-
-start-requires : tie.Need-start-requires
-start-requires c κs = search needs
-
-enum-told : tie.Need-enum-told
-enum-told c = search needs
-
-enum-told-2 : tie.Need-enum-told-2
-enum-told-2 c = search needs
-
-back-to-read-requires : tie.Need-back-to-read-requires
-back-to-read-requires c κs = search needs
-
 returns : tie.Need-returns
 returns c = simp (c .before .effect .given .1)
 
@@ -37,12 +19,12 @@ pub after-effect-spec : {M : Type 1} → statement M
 after-effect-spec =
     tie.close
     (tie.spec
-    enum-known-effect
-    enum-known-effect-2
-    start-requires
-    enum-told
-    enum-told-2
-    back-to-read-requires
+    (λ c. search needs)
+    (λ c. search needs)
+    (λ c κs. search needs)
+    (λ c. search needs)
+    (λ c. search needs)
+    (λ c κs. search needs)
     returns
     returns-2
     returns-3

@@ -4,9 +4,6 @@ use Rattle.parts.proofs.Rules.{tests}
 use Rattle.chip.proofs.sequence.at_u1.Statement.{statement}
 use Rattle.chip.proofs.sequence.at_u1.Tie as tie
 
-rem-if1 : tie.Need-rem-if1
-rem-if1 c = search needs
-
 returns : tie.Need-returns
 returns c = search tests
 
@@ -14,4 +11,4 @@ returns-2 : tie.Need-returns-2
 returns-2 c = search tests
 
 pub at-u1-spec : {M : Type 1} → statement M
-at-u1-spec = tie.close (tie.spec rem-if1 returns returns-2)
+at-u1-spec = tie.close (tie.spec (λ c. search needs) returns returns-2)

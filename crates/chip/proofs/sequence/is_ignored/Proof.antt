@@ -12,15 +12,9 @@ returns : tie.Need-returns
 unfolding ignored
 returns c = simp (c .if1 .taken)
 
-protected-range-requires : tie.Need-protected-range-requires
-protected-range-requires c κs = search needs
-
 returns-2 : tie.Need-returns-2
 unfolding ignored
 returns-2 c = simp (c .before .before .before .if1 .left, eq-eqb _ _ (c .before .if2 .taken)) (ap (λ (s : Span). ltb 0 (s .count)) (c .before .before .protected-range .ensures))
-
-holds-requires : tie.Need-holds-requires
-holds-requires c κs = search needs
 
 returns-3 : tie.Need-returns-3
 unfolding ignored
@@ -28,4 +22,4 @@ returns-3 c = simp (c .before .before .before .if1 .left, ne-eqb _ _ (c .before 
 
 pub is-ignored-spec : {M : Type 1} → statement M
 is-ignored-spec =
-    tie.close (tie.spec returns protected-range-requires returns-2 holds-requires returns-3)
+    tie.close (tie.spec returns (λ c κs. search needs) returns-2 (λ c κs. search needs) returns-3)

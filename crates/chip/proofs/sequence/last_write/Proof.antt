@@ -10,15 +10,9 @@ returns : tie.Need-returns
 unfolding effectOf
 returns c = simp (eq-eqb _ _ (c .if1 .taken))
 
-block-erase-requires : tie.Need-block-erase-requires
-block-erase-requires c κs = search needs
-
 returns-2 : tie.Need-returns-2
 unfolding effectOf
 returns-2 c = simp (ne-eqb _ _ (c .before .before .before .if1 .left), eq-eqb _ _ (c .before .if2 .taken)) (c .block-erase .ensures)
-
-at-u1-requires : tie.Need-at-u1-requires
-at-u1-requires c κs = search needs
 
 returns-3 : tie.Need-returns-3
 unfolding effectOf
@@ -30,4 +24,4 @@ returns-4 c = simp (ne-eqb _ _ (c .before .before .before .before .if1 .left), n
 
 pub last-write-spec : {M : Type 1} → statement M
 last-write-spec =
-    tie.close (tie.spec returns block-erase-requires returns-2 at-u1-requires returns-3 returns-4)
+    tie.close (tie.spec returns (λ c κs. search needs) returns-2 (λ c κs. search needs) returns-3 returns-4)

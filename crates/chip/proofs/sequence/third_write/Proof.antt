@@ -6,22 +6,13 @@ use Rattle.chip.proofs.Bits.{pick-same}
 use Rattle.chip.proofs.sequence.third_write.Statement.{statement}
 use Rattle.chip.proofs.sequence.third_write.Tie as tie
 
-at-u1-requires : tie.Need-at-u1-requires
-at-u1-requires c κs = search needs
-
 returns : tie.Need-returns
 unfolding effectOf
 returns c = simp (sym (c .before .at-u1 .ensures) ∙ c .if1 .taken)
 
-at-u1-requires-2 : tie.Need-at-u1-requires-2
-at-u1-requires-2 c κs = search needs
-
 returns-2 : tie.Need-returns-2
 unfolding effectOf
 returns-2 c = simp (sym (c .before .before .before .at-u1 .ensures) ∙ c .before .before .if1 .left, sym (c .before .at-u12 .ensures) ∙ c .if2 .taken)
-
-at-u1-requires-3 : tie.Need-at-u1-requires-3
-at-u1-requires-3 c κs = search needs
 
 returns-3 : tie.Need-returns-3
 unfolding effectOf
@@ -35,10 +26,10 @@ pub third-write-spec : {M : Type 1} → statement M
 third-write-spec =
     tie.close
     (tie.spec
-    at-u1-requires
+    (λ c κs. search needs)
     returns
-    at-u1-requires-2
+    (λ c κs. search needs)
     returns-2
-    at-u1-requires-3
+    (λ c κs. search needs)
     returns-3
     returns-4)

@@ -4,9 +4,6 @@ use Rattle.parts.proofs.Rules.{tests}
 use Rattle.driver.proofs.machine.bit_wanted.Statement.{statement}
 use Rattle.driver.proofs.machine.bit_wanted.Tie as tie
 
-bit-seven-requires : tie.Need-bit-seven-requires
-bit-seven-requires c κs = search needs
-
 returns : tie.Need-returns
 returns c = simp (c .bit-seven .ensures) (search tests)
 
@@ -14,4 +11,4 @@ returns-2 : tie.Need-returns-2
 returns-2 c = search tests
 
 pub bit-wanted-spec : {M : Type 1} → statement M
-bit-wanted-spec = tie.close (tie.spec bit-seven-requires returns returns-2)
+bit-wanted-spec = tie.close (tie.spec (λ c κs. search needs) returns returns-2)

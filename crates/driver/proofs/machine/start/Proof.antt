@@ -8,28 +8,10 @@ use Rattle.driver.proofs.Asked.{start-found}
 use Rattle.driver.proofs.machine.start.Statement.{statement}
 use Rattle.driver.proofs.machine.start.Tie as tie
 
-part-row-requires : tie.Need-part-row-requires
-part-row-requires c κs = search needs
-
-start-refusal-requires : tie.Need-start-refusal-requires
-start-refusal-requires c κs = search needs
-
-begin-requires : tie.Need-begin-requires
-begin-requires c κs = search needs
-
 returns : tie.Need-returns
 unfolding startOf
 returns c = let h = start-found (c .before .before .before .part-row .result) (c .before .before .before .before .args .part) (c .before .before .before .before .args .command) (c .before .before .before .before .args .address) (c .before .before .before .before .args .«data») (c .before .before .start-refusal .result) (c .before .before .before .part-row .ensures) (c .before .before .before .before .args .p) (c .before .before .start-refusal .ensures) in
     simp (sym h, ne-eqb (c .before .before .start-refusal .result) 0 (λ z. omega arith), c .begin .ensures)
-
-address-of-requires : tie.Need-address-of-requires
-address-of-requires c κs = search needs
-
-data-of-requires : tie.Need-data-of-requires
-data-of-requires c κs = search needs
-
-begin-requires-2 : tie.Need-begin-requires-2
-begin-requires-2 c κs = search needs
 
 returns-2 : tie.Need-returns-2
 unfolding startOf
@@ -41,11 +23,11 @@ pub start-spec : {M : Type 1} → statement M
 start-spec =
     tie.close
     (tie.spec
-    part-row-requires
-    start-refusal-requires
-    begin-requires
+    (λ c κs. search needs)
+    (λ c κs. search needs)
+    (λ c κs. search needs)
     returns
-    address-of-requires
-    data-of-requires
-    begin-requires-2
+    (λ c κs. search needs)
+    (λ c κs. search needs)
+    (λ c κs. search needs)
     returns-2)

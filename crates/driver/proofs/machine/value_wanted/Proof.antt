@@ -10,11 +10,8 @@ use Rattle.driver.proofs.machine.value_wanted.Tie as tie
 returns : tie.Need-returns
 returns c = search tests
 
-blank-requires : tie.Need-blank-requires
-blank-requires c κs = search needs
-
 returns-2 : tie.Need-returns-2
 returns-2 c = simp (ne-eqb _ _ (c .before .if1 .left)) (c .blank .ensures ∙ blank-word _ (c .before .before .pre))
 
 pub value-wanted-spec : {M : Type 1} → statement M
-value-wanted-spec = tie.close (tie.spec returns blank-requires returns-2)
+value-wanted-spec = tie.close (tie.spec returns (λ c κs. search needs) returns-2)

@@ -14,12 +14,9 @@ returns-2 c = simp (le-ltb _ _ (c .before .if1 .left), eq-eqb _ _ (c .if2 .taken
 returns-3 : tie.Need-returns-3
 returns-3 c = simp (le-ltb _ _ (c .before .before .if1 .left), ne-eqb _ _ (c .before .if2 .left), lt-ltb _ _ (c .if3 .taken))
 
-target-refusal-requires : tie.Need-target-refusal-requires
-target-refusal-requires c κs = search needs
-
 returns-4 : tie.Need-returns-4
 returns-4 c = simp (le-ltb _ _ (c .before .before .before .before .if1 .left), ne-eqb _ _ (c .before .before .before .if2 .left), le-ltb _ _ (c .before .before .if3 .left)) (c .target-refusal .ensures)
 
 pub start-refusal-spec : {M : Type 1} → statement M
 start-refusal-spec =
-    tie.close (tie.spec returns returns-2 returns-3 target-refusal-requires returns-4)
+    tie.close (tie.spec returns returns-2 returns-3 (λ c κs. search needs) returns-4)

@@ -7,9 +7,6 @@ use Rattle.parts.proofs.Rules.{tests}
 use Rattle.driver.proofs.refusals.target_refusal.Statement.{statement}
 use Rattle.driver.proofs.refusals.target_refusal.Tie as tie
 
-has-command-requires : tie.Need-has-command-requires
-has-command-requires c κs = search needs
-
 returns : tie.Need-returns
 unfolding targetRefusal
 returns c = simp (sym (c .before .has-command .ensures) ∙ not-true _ (c .if1 .taken))
@@ -22,9 +19,6 @@ returns-3 : tie.Need-returns-3
 unfolding targetRefusal
 returns-3 c = simp (sym (c .before .before .before .before .has-command .ensures) ∙ not-false _ (c .before .before .before .if1 .left)) (search tests)
 
-data-refusal-requires : tie.Need-data-refusal-requires
-data-refusal-requires c κs = search needs
-
 returns-4 : tie.Need-returns-4
 unfolding targetRefusal
 returns-4 c = simp (sym (c .before .before .before .before .before .has-command .ensures) ∙ not-false _ (c .before .before .before .before .if1 .left), c .data-refusal .ensures) (search tests)
@@ -32,4 +26,4 @@ returns-4 c = simp (sym (c .before .before .before .before .before .has-command 
 pub target-refusal-spec : {M : Type 1} → statement M
 target-refusal-spec =
     tie.close
-    (tie.spec has-command-requires returns returns-2 returns-3 data-refusal-requires returns-4)
+    (tie.spec (λ c κs. search needs) returns returns-2 returns-3 (λ c κs. search needs) returns-4)

@@ -10,12 +10,6 @@ use Rattle.driver.proofs.Ready.{usual}
 use Rattle.driver.proofs.writes.command_writes.Statement.{statement}
 use Rattle.driver.proofs.writes.command_writes.Tie as tie
 
-part-row-requires : tie.Need-part-row-requires
-part-row-requires c κs = search needs
-
-command-refusal-requires : tie.Need-command-refusal-requires
-command-refusal-requires c κs = search needs
-
 returns : tie.Need-returns
 unfolding commandWrites
 returns c = let h = command-found (c .before .before .part-row .result) (c .before .before .before .args .part) (c .before .before .before .args .command) (c .before .before .before .args .address) (c .before .before .before .args .«data») (c .before .command-refusal .result) (c .before .before .part-row .ensures) (c .before .command-refusal .ensures) in
@@ -37,4 +31,4 @@ returns-2 c = let h = command-found (c .before .before .before .before .part-row
 pub command-writes-spec : {M : Type 1} → statement M
 command-writes-spec =
     tie.close
-    (tie.spec part-row-requires command-refusal-requires returns writes-of-requires returns-2)
+    (tie.spec (λ c κs. search needs) (λ c κs. search needs) returns writes-of-requires returns-2)

@@ -10,25 +10,10 @@ use Rattle.driver.proofs.Ready.{usual}
 use Rattle.driver.proofs.writes.kth_write.Statement.{statement}
 use Rattle.driver.proofs.writes.kth_write.Tie as tie
 
-part-row-requires : tie.Need-part-row-requires
-part-row-requires c κs = search needs
-
-command-refusal-requires : tie.Need-command-refusal-requires
-command-refusal-requires c κs = search needs
-
-refused-requires : tie.Need-refused-requires
-refused-requires c κs = search needs
-
 returns : tie.Need-returns
 unfolding kthWrite
 returns c = let h = command-found (c .before .before .before .part-row .result) (c .before .before .before .before .args .part) (c .before .before .before .before .args .command) (c .before .before .before .before .args .address) (c .before .before .before .before .args .«data») (c .before .before .command-refusal .result) (c .before .before .before .part-row .ensures) (c .before .before .command-refusal .ensures) in
     simp (sym h, ne-eqb (c .before .before .command-refusal .result) 0 (λ z. omega arith)) (c .refused .ensures)
-
-write-count-requires : tie.Need-write-count-requires
-write-count-requires c κs = search needs
-
-refused-requires-2 : tie.Need-refused-requires-2
-refused-requires-2 c κs = search needs
 
 returns-2 : tie.Need-returns-2
 unfolding kthWrite
@@ -53,12 +38,12 @@ pub kth-write-spec : {M : Type 1} → statement M
 kth-write-spec =
     tie.close
     (tie.spec
-    part-row-requires
-    command-refusal-requires
-    refused-requires
+    (λ c κs. search needs)
+    (λ c κs. search needs)
+    (λ c κs. search needs)
     returns
-    write-count-requires
-    refused-requires-2
+    (λ c κs. search needs)
+    (λ c κs. search needs)
     returns-2
     nth-write-requires
     returns-3)

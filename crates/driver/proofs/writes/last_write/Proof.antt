@@ -9,15 +9,9 @@ returns : tie.Need-returns
 unfolding lastWrite
 returns c = search tests
 
-cast-code : tie.Need-cast-code
-cast-code c = search needs
-
 returns-2 : tie.Need-returns-2
 unfolding lastWrite
 returns-2 c = search tests
-
-cast-code-2 : tie.Need-cast-code-2
-cast-code-2 c = search needs
 
 returns-3 : tie.Need-returns-3
 unfolding lastWrite
@@ -28,4 +22,4 @@ unfolding lastWrite
 returns-4 c = search tests
 
 pub last-write-spec : {M : Type 1} → statement M
-last-write-spec = tie.close (tie.spec returns cast-code returns-2 cast-code-2 returns-3 returns-4)
+last-write-spec = tie.close (tie.spec returns (λ c. search needs) returns-2 (λ c. search needs) returns-3 returns-4)

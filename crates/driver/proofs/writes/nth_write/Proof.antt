@@ -14,31 +14,10 @@ use Rattle.driver.proofs.writes.nth_write.Tie as tie
 add-if1 : tie.Need-add-if1
 add-if1 c = omega (arith, write-count-le (c .args .command), c .pre .1)
 
-write-count-requires : tie.Need-write-count-requires
-write-count-requires c κs = search needs
-
-last-write-requires : tie.Need-last-write-requires
-last-write-requires c κs = search needs
-
 returns : tie.Need-returns
 unfolding writesOf writeCount
 returns c = let g = c .before .before .before .args in
     c .last-write .ensures ∙ sym (last-at (eqb (g .command) 0) (g .row) (lastWrite (g .row) (g .command) (g .address) (g .«data»)) (g .k) (c .before .if1 .taken ∙ c .before .before .write-count .ensures))
-
-unlock-one-requires : tie.Need-unlock-one-requires
-unlock-one-requires c κs = search needs
-
-unlock-two-requires : tie.Need-unlock-two-requires
-unlock-two-requires c κs = search needs
-
-third-write-requires : tie.Need-third-write-requires
-third-write-requires c κs = search needs
-
-unlock-one-requires-2 : tie.Need-unlock-one-requires-2
-unlock-one-requires-2 c κs = search needs
-
-unlock-two-requires-2 : tie.Need-unlock-two-requires-2
-unlock-two-requires-2 c κs = search needs
 
 returns-2 : tie.Need-returns-2
 unfolding writesOf
@@ -71,14 +50,14 @@ nth-write-spec =
     tie.close
     (tie.spec
     add-if1
-    write-count-requires
-    last-write-requires
+    (λ c κs. search needs)
+    (λ c κs. search needs)
     returns
-    unlock-one-requires
-    unlock-two-requires
-    third-write-requires
-    unlock-one-requires-2
-    unlock-two-requires-2
+    (λ c κs. search needs)
+    (λ c κs. search needs)
+    (λ c κs. search needs)
+    (λ c κs. search needs)
+    (λ c κs. search needs)
     returns-2
     returns-3
     returns-4

@@ -5,18 +5,6 @@ use Rattle.driver.specs.Writes.{writesOf, writeCount}
 use Rattle.driver.proofs.writes.writes_of.Statement.{statement}
 use Rattle.driver.proofs.writes.writes_of.Tie as tie
 
-unlock-one-requires : tie.Need-unlock-one-requires
-unlock-one-requires c κs = search needs
-
-unlock-two-requires : tie.Need-unlock-two-requires
-unlock-two-requires c κs = search needs
-
-third-write-requires : tie.Need-third-write-requires
-third-write-requires c κs = search needs
-
-last-write-requires : tie.Need-last-write-requires
-last-write-requires c κs = search needs
-
 returns : tie.Need-returns
 unfolding writesOf writeCount
 returns c = simp (c .before .last-write .ensures, c .before .before .third-write .ensures, c .before .before .before .unlock-two .ensures, c .before .before .before .before .unlock-one .ensures, eq-eqb _ _ (c .if1 .taken))
@@ -26,4 +14,4 @@ unfolding writesOf writeCount
 returns-2 c = simp (c .before .last-write .ensures, c .before .before .third-write .ensures, c .before .before .before .unlock-two .ensures, c .before .before .before .before .unlock-one .ensures, ne-eqb _ _ (c .if1 .left))
 
 pub writes-of-spec : {M : Type 1} → statement M
-writes-of-spec = tie.close (tie.spec unlock-one-requires unlock-two-requires third-write-requires last-write-requires returns returns-2)
+writes-of-spec = tie.close (tie.spec (λ c κs. search needs) (λ c κs. search needs) (λ c κs. search needs) (λ c κs. search needs) returns returns-2)

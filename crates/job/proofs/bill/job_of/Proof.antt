@@ -5,14 +5,8 @@ use Rattle.parts.specs.declared.table.Found.{Found}
 use Rattle.job.proofs.bill.job_of.Statement.{statement}
 use Rattle.job.proofs.bill.job_of.Tie as tie
 
-part-row-requires : tie.Need-part-row-requires
-part-row-requires c κs = search needs
-
-sector-size-requires : tie.Need-sector-size-requires
-sector-size-requires c κs = search needs
-
 returns : tie.Need-returns
 returns c = let r = ap (λ (f : Found). f .row) (c .before .before .part-row .ensures) in rw (c .sector-size .ensures, r)
 
 pub job-of-spec : {M : Type 1} → statement M
-job-of-spec = tie.close (tie.spec part-row-requires sector-size-requires returns)
+job-of-spec = tie.close (tie.spec (λ c κs. search needs) (λ c κs. search needs) returns)

@@ -10,12 +10,6 @@ use Rattle.job.proofs.Billing.{none-given, image-few, range-fits, kept,
 use Rattle.job.proofs.bill.load.Statement.{statement}
 use Rattle.job.proofs.bill.load.Tie as tie
 
-job-refusal-requires : tie.Need-job-refusal-requires
-job-refusal-requires c κs = search needs
-
-refused-bill-requires : tie.Need-refused-bill-requires
-refused-bill-requires c κs = search needs
-
 returns : tie.Need-returns
 unfolding loadOf
 returns c =
@@ -29,9 +23,6 @@ cast-job-of c =
     let z = none-given (c .before .job-refusal .ensures) (c .if1 .left) in
     omega (arith, image-few (g .part) (g .first) (g .image .now) (g .cells .now) (g .wp) (g .p) z)
 
-job-of-requires : tie.Need-job-of-requires
-job-of-requires c κs = search needs
-
 run-requires : tie.Need-run-requires
 run-requires c κs =
     let g = c .before .before .before .before .before .before .args in
@@ -44,32 +35,17 @@ add-end c =
     let z = none-given (c .before .before .before .before .before .before .job-refusal .ensures) (c .before .before .before .before .before .if1 .left) in
     omega (arith, image-few (g .part) (g .first) (g .image .now) (g .cells .now) (g .wp) (g .p) z)
 
-mul-sum : tie.Need-mul-sum
-mul-sum c = search needs
-
-sub-sum : tie.Need-sub-sum
-sub-sum c = search needs
-
-part-sum-start : tie.Need-part-sum-start
-part-sum-start c = search needs
-
 part-sum-end : tie.Need-part-sum-end
 part-sum-end c =
     let g = c .before .before .before .before .before .before .before .before .before .before .args in
     let z = none-given (c .before .before .before .before .before .before .before .job-refusal .ensures) (c .before .before .before .before .before .before .if1 .left) in
     omega (arith, range-fits (g .part) (g .first) (g .image .now) (g .cells .now) (g .wp) (g .p) z, c .before .before .before .run .kept .0)
 
-sum-requires : tie.Need-sum-requires
-sum-requires c κs = search needs
-
 write-bill-requires : tie.Need-write-bill-requires
 write-bill-requires c κs =
     let g = c .before .before .before .before .before .before .before .before .before .before .before .before .before .before .args in
     let z = none-given (c .before .before .before .before .before .before .before .before .before .before .before .job-refusal .ensures) (c .before .before .before .before .before .before .before .before .before .before .if1 .left) in
     rw (c .before .before .before .before .before .before .before .before .before .job-of .ensures) (timed (g .part) (g .first) (g .image .now) (g .cells .now) (g .wp) (g .p) z)
-
-same-length : tie.Need-same-length
-same-length c = search needs
 
 returns-2 : tie.Need-returns-2
 returns-2 c =
@@ -86,18 +62,18 @@ pub load-spec : {M : Type 1} → statement M
 load-spec =
     tie.close
     (tie.spec
-    job-refusal-requires
-    refused-bill-requires
+    (λ c κs. search needs)
+    (λ c κs. search needs)
     returns
     cast-job-of
-    job-of-requires
+    (λ c κs. search needs)
     run-requires
     add-end
-    mul-sum
-    sub-sum
-    part-sum-start
+    (λ c. search needs)
+    (λ c. search needs)
+    (λ c. search needs)
     part-sum-end
-    sum-requires
+    (λ c κs. search needs)
     write-bill-requires
-    same-length
+    (λ c. search needs)
     returns-2)

@@ -8,12 +8,6 @@ use Rattle.job.proofs.Billing.{none-given, image-few, kept, few-most, f
 use Rattle.job.proofs.bill.load_first.Statement.{statement}
 use Rattle.job.proofs.bill.load_first.Tie as tie
 
-job-refusal-requires : tie.Need-job-refusal-requires
-job-refusal-requires c κs = search needs
-
-refused-report-requires : tie.Need-refused-report-requires
-refused-report-requires c κs = search needs
-
 returns : tie.Need-returns
 unfolding reportOf
 returns c =
@@ -27,23 +21,11 @@ cast-job-of c =
     let z = none-given (c .before .job-refusal .ensures) (c .if1 .left) in
     omega (arith, image-few (g .part) (g .first) (g .image .now) (g .cells .now) (g .wp) (g .p) z)
 
-job-of-requires : tie.Need-job-of-requires
-job-of-requires c κs = search needs
-
-first-few-requires : tie.Need-first-few-requires
-first-few-requires c κs = search needs
-
 run-requires : tie.Need-run-requires
 run-requires c κs =
     let g = c .before .before .before .before .before .before .before .args in
     let z = none-given (c .before .before .before .before .job-refusal .ensures) (c .before .before .before .if1 .left) in
     rw (c .before .before .job-of .ensures, c .first-few .ensures) (kept (g .part) (g .first) (g .image .now) (g .cells .now) (g .wp) (g .p) z, few-most (g .k))
-
-write-report-requires : tie.Need-write-report-requires
-write-report-requires c κs = search needs
-
-same-length : tie.Need-same-length
-same-length c = search needs
 
 returns-2 : tie.Need-returns-2
 returns-2 c =
@@ -59,13 +41,13 @@ pub load-first-spec : {M : Type 1} → statement M
 load-first-spec =
     tie.close
     (tie.spec
-    job-refusal-requires
-    refused-report-requires
+    (λ c κs. search needs)
+    (λ c κs. search needs)
     returns
     cast-job-of
-    job-of-requires
-    first-few-requires
+    (λ c κs. search needs)
+    (λ c κs. search needs)
     run-requires
-    write-report-requires
-    same-length
+    (λ c κs. search needs)
+    (λ c. search needs)
     returns-2)

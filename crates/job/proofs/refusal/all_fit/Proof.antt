@@ -15,26 +15,8 @@ Inv-loop width image i₀ i = (i ≤ length image) × (fitAll width image ≡ fi
 abbrev μ-loop : tie.MeasureT-loop
 μ-loop width image i₀ i = length image - i
 
-loop-holds : tie.Need-loop-holds Inv-loop μ-loop
-loop-holds c = search needs
-
-mul-fits : tie.Need-mul-fits Inv-loop μ-loop
-mul-fits c = search needs
-
-shared-slice-read-fits : tie.Need-shared-slice-read-fits Inv-loop μ-loop
-shared-slice-read-fits c = search needs
-
-fits-requires : tie.Need-fits-requires Inv-loop μ-loop
-fits-requires c κs = search needs
-
 returns : tie.Need-returns Inv-loop μ-loop
 returns c = sym (c .before .before .before .before .loop .inv .1 ∙ fit-ends (c .before .before .before .before .before .before .args .width) (c .before .before .before .before .before .before .args .image .now) (c .before .before .before .before .loop .i) (search needs) (sym (c .before .fits2 .ensures) ∙ not-true _ (c .if1 .taken)))
-
-add-i : tie.Need-add-i Inv-loop μ-loop
-add-i c = search needs
-
-loop-less : tie.Need-loop-less Inv-loop μ-loop
-loop-less c = search needs
 
 loop-again : tie.Need-loop-again Inv-loop μ-loop
 loop-again c = (search needs, c .before .before .before .before .loop .inv .1 ∙ fit-more (c .before .before .before .before .before .before .args .width) (c .before .before .before .before .before .before .args .image .now) (c .before .before .before .before .loop .i) (search needs) (sym (c .before .fits2 .ensures) ∙ not-false _ (c .if1 .left)))
@@ -48,12 +30,12 @@ all-fit-spec =
     (tie.spec
     Inv-loop
     μ-loop
-    loop-holds
-    mul-fits
-    shared-slice-read-fits
-    fits-requires
+    (λ c. search needs)
+    (λ c. search needs)
+    (λ c. search needs)
+    (λ c κs. search needs)
     returns
-    add-i
-    loop-less
+    (λ c. search needs)
+    (λ c. search needs)
     loop-again
     returns-2)

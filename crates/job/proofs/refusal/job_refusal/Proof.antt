@@ -7,15 +7,9 @@ use Rattle.parts.specs.declared.table.Found.{Found}
 use Rattle.job.proofs.refusal.job_refusal.Statement.{statement}
 use Rattle.job.proofs.refusal.job_refusal.Tie as tie
 
-part-row-requires : tie.Need-part-row-requires
-part-row-requires c κs = search needs
-
 returns : tie.Need-returns
 unfolding jobRefusal
 returns c = let e = ap (λ (f : Found). f .answer) (c .before .part-row .ensures) in simp (sym e, lt-ltb _ _ (c .if1 .taken))
-
-cast-if2 : tie.Need-cast-if2
-cast-if2 c = search needs
 
 returns-2 : tie.Need-returns-2
 unfolding jobRefusal
@@ -28,9 +22,6 @@ unfolding jobRefusal
 returns-3 c = let e = ap (λ (f : Found). f .answer) (c .before .before .before .before .before .before .part-row .ensures) in
     let r = ap (λ (f : Found). f .row) (c .before .before .before .before .before .before .part-row .ensures) in
     simp (sym e, sym r, le-ltb _ _ (c .before .before .before .before .before .if1 .left), eq-eqb _ _ (c .before .before .if2 .taken), ne-eqb _ _ (c .before .if3 .left), lt-ltb _ _ (c .if4 .taken))
-
-range-refusal-requires : tie.Need-range-refusal-requires
-range-refusal-requires c κs = search needs
 
 returns-4 : tie.Need-returns-4
 unfolding jobRefusal
@@ -48,11 +39,11 @@ pub job-refusal-spec : {M : Type 1} → statement M
 job-refusal-spec =
     tie.close
     (tie.spec
-    part-row-requires
+    (λ c κs. search needs)
     returns
-    cast-if2
+    (λ c. search needs)
     returns-2
     returns-3
-    range-refusal-requires
+    (λ c κs. search needs)
     returns-4
     returns-5)

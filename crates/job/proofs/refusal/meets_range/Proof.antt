@@ -9,21 +9,6 @@ returns : tie.Need-returns
 unfolding meets
 returns c = search tests
 
-cast-if2 : tie.Need-cast-if2
-cast-if2 c = search needs
-
-cast-if2-2 : tie.Need-cast-if2-2
-cast-if2-2 c = search needs
-
-add-if2 : tie.Need-add-if2
-add-if2 c = search needs
-
-cast-result : tie.Need-cast-result
-cast-result c = search needs
-
-add-result : tie.Need-add-result
-add-result c = search needs
-
 returns-2 : tie.Need-returns-2
 unfolding meets
 returns-2 c = search tests
@@ -35,4 +20,4 @@ returns-3 c = search tests
 pub meets-range-spec : {M : Type 1} → statement M
 meets-range-spec =
     tie.close
-    (tie.spec returns cast-if2 cast-if2-2 add-if2 cast-result add-result returns-2 returns-3)
+    (tie.spec returns (λ c. search needs) (λ c. search needs) (λ c. search needs) (λ c. search needs) (λ c. search needs) returns-2 returns-3)

@@ -10,12 +10,6 @@ returns : tie.Need-returns
 unfolding protectionRefusal
 returns c = simp (c .if1 .taken)
 
-protected-range-requires : tie.Need-protected-range-requires
-protected-range-requires c κs = search needs
-
-meets-range-requires : tie.Need-meets-range-requires
-meets-range-requires c κs = search needs
-
 returns-2 : tie.Need-returns-2
 unfolding protectionRefusal
 returns-2 c = let m = sym (c .before .meets-range .ensures ∙ ap (λ (s : Span). meets s (c .before .before .before .before .args .first) (c .before .before .before .before .args .count)) (c .before .before .protected-range .ensures)) ∙ c .if2 .taken in simp (c .before .before .before .if1 .left, m)
@@ -26,4 +20,4 @@ returns-3 c = let m = sym (c .before .meets-range .ensures ∙ ap (λ (s : Span)
 
 pub protection-refusal-spec : {M : Type 1} → statement M
 protection-refusal-spec =
-    tie.close (tie.spec returns protected-range-requires meets-range-requires returns-2 returns-3)
+    tie.close (tie.spec returns (λ c κs. search needs) (λ c κs. search needs) returns-2 returns-3)

@@ -10,12 +10,6 @@ use Rattle.parts.proofs.Ranges.{sector-some}
 use Rattle.job.proofs.refusal.range_refusal.Statement.{statement}
 use Rattle.job.proofs.refusal.range_refusal.Tie as tie
 
-sector-size-requires : tie.Need-sector-size-requires
-sector-size-requires c κs = search needs
-
-cast-size : tie.Need-cast-size
-cast-size c = search needs
-
 rem-if1 : tie.Need-rem-if1
 unfolding rangeRefusal
 rem-if1 c = let e = c .sector-size .ensures in omega (arith, e, sector-some (c .before .before .args .row .width))
@@ -32,18 +26,9 @@ returns-2 : tie.Need-returns-2
 unfolding rangeRefusal
 returns-2 c = let e = c .before .before .sector-size .ensures in simp (sym e, le-ltb _ _ (c .before .if1 .left), lt-ltb _ _ (c .if2 .taken))
 
-cast-within : tie.Need-cast-within
-cast-within c = search needs
-
-within-requires : tie.Need-within-requires
-within-requires c κs = search needs
-
 returns-3 : tie.Need-returns-3
 unfolding rangeRefusal
 returns-3 c = let e = c .before .before .before .before .before .sector-size .ensures in simp (sym e, le-ltb _ _ (c .before .before .before .before .if1 .left), le-ltb _ _ (c .before .before .before .if2 .left), sym (c .before .within .ensures) ∙ not-true _ (c .if3 .taken))
-
-all-fit-requires : tie.Need-all-fit-requires
-all-fit-requires c κs = search needs
 
 returns-4 : tie.Need-returns-4
 unfolding rangeRefusal
@@ -61,16 +46,16 @@ pub range-refusal-spec : {M : Type 1} → statement M
 range-refusal-spec =
     tie.close
     (tie.spec
-    sector-size-requires
-    cast-size
+    (λ c κs. search needs)
+    (λ c. search needs)
     rem-if1
     returns
     rem-if2
     returns-2
-    cast-within
-    within-requires
+    (λ c. search needs)
+    (λ c κs. search needs)
     returns-3
-    all-fit-requires
+    (λ c κs. search needs)
     returns-4
     protection-refusal-requires
     returns-5)

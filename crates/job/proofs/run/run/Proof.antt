@@ -18,12 +18,6 @@ Inv-loop cells₀ job image k seen₀ held₀ turn₀ cells seen held turn = (he
 abbrev μ-loop : tie.MeasureT-loop
 μ-loop cells₀ job image k seen₀ held₀ turn₀ cells seen held turn = k - held .sent
 
-none-sent-requires : tie.Need-none-sent-requires Inv-loop μ-loop
-none-sent-requires c κs = search needs
-
-first-turn-requires : tie.Need-first-turn-requires Inv-loop μ-loop
-first-turn-requires c κs = search needs
-
 loop-holds : tie.Need-loop-holds Inv-loop μ-loop
 loop-holds c =
     let g = c .before .before .before .before .args in
@@ -31,18 +25,6 @@ loop-holds c =
     let t = c .first-turn in
     let w = starts (g .job) (g .image .now) (g .k) (t .result) (g .cells .now) (n .result) (n .ensures) (t .ensures) in
     (w .0, (w .1 .0, (refl, w .1 .1)))
-
-enum-known-turn : tie.Need-enum-known-turn Inv-loop μ-loop
-enum-known-turn c = search needs
-
-enum-told : tie.Need-enum-told Inv-loop μ-loop
-enum-told c = search needs
-
-stop-number-requires : tie.Need-stop-number-requires Inv-loop μ-loop
-stop-number-requires c κs = search needs
-
-same-length : tie.Need-same-length Inv-loop μ-loop
-same-length c = search needs
 
 returns : tie.Need-returns Inv-loop μ-loop
 returns c =
@@ -80,12 +62,6 @@ loop-again c =
     short (l .inv .1 .0) (l .inv .1 .1 .1) in
     (w .0, (w .1 .0, (s .kept .1 .0 ∙ l .inv .1 .1 .0, w .1 .1)))
 
-stop-number-requires-2 : tie.Need-stop-number-requires-2 Inv-loop μ-loop
-stop-number-requires-2 c κs = search needs
-
-same-length-2 : tie.Need-same-length-2 Inv-loop μ-loop
-same-length-2 c = search needs
-
 returns-2 : tie.Need-returns-2 Inv-loop μ-loop
 returns-2 c =
     let g = c .before .before .before .before .before .before .before .before .args in
@@ -100,18 +76,18 @@ run-spec =
     (tie.spec
     Inv-loop
     μ-loop
-    none-sent-requires
-    first-turn-requires
+    (λ c κs. search needs)
+    (λ c κs. search needs)
     loop-holds
-    enum-known-turn
-    enum-told
-    stop-number-requires
-    same-length
+    (λ c. search needs)
+    (λ c. search needs)
+    (λ c κs. search needs)
+    (λ c. search needs)
     returns
     send-requires
     turn-requires
     loop-less
     loop-again
-    stop-number-requires-2
-    same-length-2
+    (λ c κs. search needs)
+    (λ c. search needs)
     returns-2)

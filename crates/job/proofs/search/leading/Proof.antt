@@ -15,23 +15,8 @@ Inv-loop values v i₀ i = (i ≤ length values) × (leadingOf v values ≡ i + 
 abbrev μ-loop : tie.MeasureT-loop
 μ-loop values v i₀ i = length values - i
 
-loop-holds : tie.Need-loop-holds Inv-loop μ-loop
-loop-holds c = search needs
-
-mul-if1 : tie.Need-mul-if1 Inv-loop μ-loop
-mul-if1 c = search needs
-
-shared-slice-read-if1 : tie.Need-shared-slice-read-if1 Inv-loop μ-loop
-shared-slice-read-if1 c = search needs
-
 returns : tie.Need-returns Inv-loop μ-loop
 returns c = omega (arith, c .before .before .before .loop .inv .1, front-ends (c .before .before .before .before .args .v) (c .before .before .before .before .args .values .now) (c .before .before .before .loop .i) (search needs) (c .if1 .taken))
-
-add-i : tie.Need-add-i Inv-loop μ-loop
-add-i c = search needs
-
-loop-less : tie.Need-loop-less Inv-loop μ-loop
-loop-less c = search needs
 
 loop-again : tie.Need-loop-again Inv-loop μ-loop
 loop-again c = (search needs, omega (arith, c .before .before .before .loop .inv .1, front-more (c .before .before .before .before .args .v) (c .before .before .before .before .args .values .now) (c .before .before .before .loop .i) (search needs) (c .if1 .left)))
@@ -45,11 +30,11 @@ leading-spec =
     (tie.spec
     Inv-loop
     μ-loop
-    loop-holds
-    mul-if1
-    shared-slice-read-if1
+    (λ c. search needs)
+    (λ c. search needs)
+    (λ c. search needs)
     returns
-    add-i
-    loop-less
+    (λ c. search needs)
+    (λ c. search needs)
     loop-again
     returns-2)

@@ -22,41 +22,11 @@ Inv-cells old new width found₀ i₀ found i = (found ≡ false) × ((i ≤ len
 abbrev μ-cells : tie.MeasureT-cells
 μ-cells old new width found₀ i₀ found i = length old - i
 
-cells-holds : tie.Need-cells-holds Inv-loop μ-loop Inv-cells μ-cells
-cells-holds c = search needs
-
-mul-o : tie.Need-mul-o Inv-loop μ-loop Inv-cells μ-cells
-mul-o c = search needs
-
-shared-slice-read-o : tie.Need-shared-slice-read-o Inv-loop μ-loop Inv-cells μ-cells
-shared-slice-read-o c = search needs
-
-mul-n : tie.Need-mul-n Inv-loop μ-loop Inv-cells μ-cells
-mul-n c = search needs
-
-shared-slice-read-n : tie.Need-shared-slice-read-n Inv-loop μ-loop Inv-cells μ-cells
-shared-slice-read-n c = search needs
-
-loop-holds : tie.Need-loop-holds Inv-loop μ-loop Inv-cells μ-cells
-loop-holds c = search needs
-
-sub-left : tie.Need-sub-left Inv-loop μ-loop Inv-cells μ-cells
-sub-left c = search needs
-
-loop-less : tie.Need-loop-less Inv-loop μ-loop Inv-cells μ-cells
-loop-less c = search needs
-
 loop-again : tie.Need-loop-again Inv-loop μ-loop Inv-cells μ-cells
 loop-again c = (
   c .before .before .loop .inv .0,
   ⊎-elim (λ w. c .before .before .loop .inv .1 ∙ bit-miss-new _ _ _ (search needs) (w .0 .taken) (w .1 .left)) (λ w. c .before .before .loop .inv .1 ∙ bit-miss-old _ _ _ (search needs) (w .left)) (c .if1 .came),
 )
-
-add-i : tie.Need-add-i Inv-loop μ-loop Inv-cells μ-cells
-add-i c = search needs
-
-cells-less : tie.Need-cells-less Inv-loop μ-loop Inv-cells μ-cells
-cells-less c = search needs
 
 cells-again : tie.Need-cells-again Inv-loop μ-loop Inv-cells μ-cells
 cells-again c = (
@@ -81,17 +51,17 @@ must-rise-spec =
     μ-loop
     Inv-cells
     μ-cells
-    cells-holds
-    mul-o
-    shared-slice-read-o
-    mul-n
-    shared-slice-read-n
-    loop-holds
-    sub-left
-    loop-less
+    (λ c. search needs)
+    (λ c. search needs)
+    (λ c. search needs)
+    (λ c. search needs)
+    (λ c. search needs)
+    (λ c. search needs)
+    (λ c. search needs)
+    (λ c. search needs)
     loop-again
-    add-i
-    cells-less
+    (λ c. search needs)
+    (λ c. search needs)
     cells-again
     returns
     returns-2)

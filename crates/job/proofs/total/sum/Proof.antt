@@ -15,27 +15,6 @@ Inv-loop cells width acc₀ i₀ acc i = (i ≤ length cells) × ((acc < 65536) 
 abbrev μ-loop : tie.MeasureT-loop
 μ-loop cells width acc₀ i₀ acc i = length cells - i
 
-loop-holds : tie.Need-loop-holds Inv-loop μ-loop
-loop-holds c = search needs
-
-mul-value : tie.Need-mul-value Inv-loop μ-loop
-mul-value c = search needs
-
-shared-slice-read-value : tie.Need-shared-slice-read-value Inv-loop μ-loop
-shared-slice-read-value c = search needs
-
-value-requires : tie.Need-value-requires Inv-loop μ-loop
-value-requires c κs = search needs
-
-wrapping-add-u16-requires : tie.Need-wrapping-add-u16-requires Inv-loop μ-loop
-wrapping-add-u16-requires c κs = search needs
-
-add-i : tie.Need-add-i Inv-loop μ-loop
-add-i c = search needs
-
-loop-less : tie.Need-loop-less Inv-loop μ-loop
-loop-less c = search needs
-
 loop-again : tie.Need-loop-again Inv-loop μ-loop
 loop-again c = (search needs, (search needs, omega (arith, c .before .before .before .before .loop .inv .1 .1, total-more (c .before .before .before .before .before .before .args .width) (c .before .before .before .before .before .before .args .cells .now) (c .before .before .before .before .loop .i) (search needs), c .wrapping-add-u16 .ensures, c .before .value .ensures)))
 
@@ -48,12 +27,12 @@ sum-spec =
     (tie.spec
     Inv-loop
     μ-loop
-    loop-holds
-    mul-value
-    shared-slice-read-value
-    value-requires
-    wrapping-add-u16-requires
-    add-i
-    loop-less
+    (λ c. search needs)
+    (λ c. search needs)
+    (λ c. search needs)
+    (λ c κs. search needs)
+    (λ c κs. search needs)
+    (λ c. search needs)
+    (λ c. search needs)
     loop-again
     returns)

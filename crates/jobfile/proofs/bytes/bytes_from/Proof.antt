@@ -7,26 +7,8 @@ use Rattle.jobfile.proofs.Fields.{to-the-end}
 use Rattle.jobfile.proofs.bytes.bytes_from.Statement.{statement}
 use Rattle.jobfile.proofs.bytes.bytes_from.Tie as tie
 
-sub-result : tie.Need-sub-result
-sub-result c = search needs
-
-part-result-start : tie.Need-part-result-start
-part-result-start c = search needs
-
-part-result-end : tie.Need-part-result-end
-part-result-end c = search needs
-
 returns : tie.Need-returns
 returns c = to-the-end _ (c .before .before .args .bytes .now) ∙ (drop-length (c .before .before .args .bytes .now) ∙ sym (drop-of-length-le (c .before .before .args .bytes .now) (c .before .if1 .taken)))
-
-sub-result-2 : tie.Need-sub-result-2
-sub-result-2 c = search needs
-
-part-result-start-2 : tie.Need-part-result-start-2
-part-result-start-2 c = search needs
-
-part-result-end-2 : tie.Need-part-result-end-2
-part-result-end-2 c = search needs
 
 returns-2 : tie.Need-returns-2
 returns-2 c = to-the-end (c .before .before .args .a) (c .before .before .args .bytes .now)
@@ -35,11 +17,11 @@ pub bytes-from-spec : {M : Type 1} → statement M
 bytes-from-spec =
     tie.close
     (tie.spec
-    sub-result
-    part-result-start
-    part-result-end
+    (λ c. search needs)
+    (λ c. search needs)
+    (λ c. search needs)
     returns
-    sub-result-2
-    part-result-start-2
-    part-result-end-2
+    (λ c. search needs)
+    (λ c. search needs)
+    (λ c. search needs)
     returns-2)

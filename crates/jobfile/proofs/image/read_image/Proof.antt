@@ -5,17 +5,8 @@ use Rattle.jobfile.proofs.Values.{values-from}
 use Rattle.jobfile.proofs.image.read_image.Statement.{statement}
 use Rattle.jobfile.proofs.image.read_image.Tie as tie
 
-bytes-from-requires : tie.Need-bytes-from-requires
-bytes-from-requires c κs = search needs
-
-read-values-requires : tie.Need-read-values-requires
-read-values-requires c κs = search needs
-
-same-length : tie.Need-same-length
-same-length c = search needs
-
 returns : tie.Need-returns
 returns c = simp (c .before .before .read-values .ensures, c .before .before .before .before .bytes-from .ensures, values-from, add-zero)
 
 pub read-image-spec : {M : Type 1} → statement M
-read-image-spec = tie.close (tie.spec bytes-from-requires read-values-requires same-length returns)
+read-image-spec = tie.close (tie.spec (λ c κs. search needs) (λ c κs. search needs) (λ c. search needs) returns)

@@ -18,29 +18,8 @@ loop-holds : tie.Need-loop-holds Inv-loop μ-loop
 unfolding valuesOf
 loop-holds c = search needs
 
-mul-two-bytes : tie.Need-mul-two-bytes Inv-loop μ-loop
-mul-two-bytes c = search needs
-
-two-bytes-requires : tie.Need-two-bytes-requires Inv-loop μ-loop
-two-bytes-requires c κs = search needs
-
-mul-image : tie.Need-mul-image Inv-loop μ-loop
-mul-image c = search needs
-
-slice-write-image : tie.Need-slice-write-image Inv-loop μ-loop
-slice-write-image c = search needs
-
-add-i : tie.Need-add-i Inv-loop μ-loop
-add-i c = search needs
-
-loop-less : tie.Need-loop-less Inv-loop μ-loop
-loop-less c = search needs
-
 loop-again : tie.Need-loop-again Inv-loop μ-loop
 loop-again c = (search needs, (search needs, written-more (c .before .before .before .before .before .args .bytes .now) (c .before .before .before .before .before .args .image .now) _ (c .before .before .loop .i) _ (c .before .before .loop .inv .1 .1) (c .two-bytes .ensures) (search needs)))
-
-same-length : tie.Need-same-length Inv-loop μ-loop
-same-length c = search needs
 
 returns : tie.Need-returns Inv-loop μ-loop
 returns c = c .before .loop .inv .1 .1 ∙ written-all (c .before .before .before .before .args .bytes .now) (c .before .before .before .before .args .image .now) (c .before .loop .i) (search needs) (search needs)
@@ -52,12 +31,12 @@ read-values-spec =
     Inv-loop
     μ-loop
     loop-holds
-    mul-two-bytes
-    two-bytes-requires
-    mul-image
-    slice-write-image
-    add-i
-    loop-less
+    (λ c. search needs)
+    (λ c κs. search needs)
+    (λ c. search needs)
+    (λ c. search needs)
+    (λ c. search needs)
+    (λ c. search needs)
     loop-again
-    same-length
+    (λ c. search needs)
     returns)

@@ -6,32 +6,17 @@ use Rattle.jobfile.specs.JobFile.{wrong}
 use Rattle.jobfile.proofs.trailer.is_wrong.Statement.{statement}
 use Rattle.jobfile.proofs.trailer.is_wrong.Tie as tie
 
-one-byte-requires : tie.Need-one-byte-requires
-one-byte-requires c κs = search needs
-
 returns : tie.Need-returns
 unfolding wrong
 returns c = simp (sym (c .before .one-byte .ensures), lt-ltb 0 _ (c .if1 .taken))
-
-two-bytes-requires : tie.Need-two-bytes-requires
-two-bytes-requires c κs = search needs
 
 returns-2 : tie.Need-returns-2
 unfolding wrong
 returns-2 c = simp (sym (c .before .before .before .one-byte .ensures), le-ltb 0 _ (c .before .before .if1 .left), sym (c .before .two-bytes .ensures), lt-ltb 0 _ (c .if2 .taken))
 
-one-byte-requires-2 : tie.Need-one-byte-requires-2
-one-byte-requires-2 c κs = search needs
-
 returns-3 : tie.Need-returns-3
 unfolding wrong
 returns-3 c = simp (sym (c .before .before .before .before .before .one-byte .ensures), le-ltb 0 _ (c .before .before .before .before .if1 .left), sym (c .before .before .before .two-bytes .ensures), le-ltb 0 _ (c .before .before .if2 .left), sym (c .before .one-byte2 .ensures), lt-ltb 1 _ (c .if3 .taken))
-
-four-bytes-requires : tie.Need-four-bytes-requires
-four-bytes-requires c κs = search needs
-
-cast-distance : tie.Need-cast-distance
-cast-distance c = search needs
 
 returns-4 : tie.Need-returns-4
 unfolding wrong
@@ -45,13 +30,13 @@ pub is-wrong-spec : {M : Type 1} → statement M
 is-wrong-spec =
     tie.close
     (tie.spec
-    one-byte-requires
+    (λ c κs. search needs)
     returns
-    two-bytes-requires
+    (λ c κs. search needs)
     returns-2
-    one-byte-requires-2
+    (λ c κs. search needs)
     returns-3
-    four-bytes-requires
-    cast-distance
+    (λ c κs. search needs)
+    (λ c. search needs)
     returns-4
     returns-5)

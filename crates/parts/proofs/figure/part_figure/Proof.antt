@@ -8,28 +8,13 @@ use Rattle.parts.specs.declared.table.Found.{Found}
 use Rattle.parts.proofs.figure.part_figure.Statement.{statement}
 use Rattle.parts.proofs.figure.part_figure.Tie as tie
 
-part-row-requires : tie.Need-part-row-requires
-part-row-requires c κs = search needs
-
-refused-requires : tie.Need-refused-requires
-refused-requires c κs = search needs
-
 returns : tie.Need-returns
 unfolding figureOf
 returns c = let e = ap (λ (f : Found). f .answer) (c .before .before .part-row .ensures) in simp (sym e, lt-ltb _ _ (c .before .if1 .taken), c .refused .ensures)
 
-refused-requires-2 : tie.Need-refused-requires-2
-refused-requires-2 c κs = search needs
-
 returns-2 : tie.Need-returns-2
 unfolding figureOf
 returns-2 c = let e = ap (λ (f : Found). f .answer) (c .before .before .before .part-row .ensures) in simp (sym e, le-ltb _ _ (c .before .before .if1 .left), lt-ltb _ _ (c .before .if2 .taken), c .refused2 .ensures)
-
-mul-t9 : tie.Need-mul-t9
-mul-t9 c = search needs
-
-array-read-t12 : tie.Need-array-read-t12
-array-read-t12 c = search needs
 
 returns-3 : tie.Need-returns-3
 unfolding figureOf
@@ -41,11 +26,11 @@ pub part-figure-spec : {M : Type 1} → statement M
 part-figure-spec =
     tie.close
     (tie.spec
-    part-row-requires
-    refused-requires
+    (λ c κs. search needs)
+    (λ c κs. search needs)
     returns
-    refused-requires-2
+    (λ c κs. search needs)
     returns-2
-    mul-t9
-    array-read-t12
+    (λ c. search needs)
+    (λ c. search needs)
     returns-3)

@@ -11,14 +11,8 @@ use Rattle.parts.proofs.span.range.Tie as tie
 returns : tie.Need-returns
 returns c = rw (c .if1 .taken) (ap (λ (n : ℕ). span n 0) (sym (mul-zero _)))
 
-div-t4 : tie.Need-div-t4
-div-t4 c = search needs
-
 mul-t5 : tie.Need-mul-t5
 mul-t5 c = omega (arith, div-mul-le-self (c .before .args .address) (c .before .args .size))
 
-returns-2 : tie.Need-returns-2
-returns-2 c = search needs
-
 pub range-spec : {M : Type 1} → statement M
-range-spec = tie.close (tie.spec returns div-t4 mul-t5 returns-2)
+range-spec = tie.close (tie.spec returns (λ c. search needs) mul-t5 (λ c. search needs))

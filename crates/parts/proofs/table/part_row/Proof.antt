@@ -9,18 +9,9 @@ use Rattle.parts.specs.Table.{lines, noLine, rowOf, partRefusal}
 use Rattle.parts.proofs.table.part_row.Statement.{statement}
 use Rattle.parts.proofs.table.part_row.Tie as tie
 
-named-requires : tie.Need-named-requires
-named-requires c κs = search needs
-
 returns : tie.Need-returns
 unfolding rowOf partRefusal
 returns c = let h : 11 ≤ c .before .before .args .part = omega arith in simp (lt-ltb _ _ (c .before .if1 .taken), List·getD-eq-default lines noLine h, c .named .ensures)
-
-line-of-requires : tie.Need-line-of-requires
-line-of-requires c κs = search needs
-
-named-requires-2 : tie.Need-named-requires-2
-named-requires-2 c κs = search needs
 
 returns-2 : tie.Need-returns-2
 unfolding rowOf partRefusal
@@ -29,4 +20,4 @@ returns-2 c = simp (le-ltb _ _ (c .before .before .if1 .left), sym (c .before .l
 pub part-row-spec : {M : Type 1} → statement M
 part-row-spec =
     tie.close
-    (tie.spec named-requires returns line-of-requires named-requires-2 returns-2)
+    (tie.spec (λ c κs. search needs) returns (λ c κs. search needs) (λ c κs. search needs) returns-2)

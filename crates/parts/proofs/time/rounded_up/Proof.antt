@@ -16,12 +16,6 @@ returns c = search tests
 returns-2 : tie.Need-returns-2
 returns-2 c = omega (arith, c .if2 .taken, least (c .before .before .args .time) (c .before .before .args .p) (search needs) 0 (search needs))
 
-sub-result : tie.Need-sub-result
-sub-result c = search needs
-
-div-result : tie.Need-div-result
-div-result c = search needs
-
 add-result : tie.Need-add-result
 add-result c = omega (arith, div-le-self (c .before .before .args .time - 1) (c .before .before .args .p))
 
@@ -29,4 +23,4 @@ returns-3 : tie.Need-returns-3
 returns-3 c = counted _ _ (search needs) (search needs)
 
 pub rounded-up-spec : {M : Type 1} → statement M
-rounded-up-spec = tie.close (tie.spec returns returns-2 sub-result div-result add-result returns-3)
+rounded-up-spec = tie.close (tie.spec returns returns-2 (λ c. search needs) (λ c. search needs) add-result returns-3)

@@ -5,11 +5,8 @@ use Rattle.parts.proofs.Values.{value-ones}
 use Rattle.parts.proofs.width.blank.Statement.{statement}
 use Rattle.parts.proofs.width.blank.Tie as tie
 
-value-requires : tie.Need-value-requires
-value-requires c κs = search needs
-
 returns : tie.Need-returns
 returns c = c .value .ensures ∙ value-ones _
 
 pub blank-spec : {M : Type 1} → statement M
-blank-spec = tie.close (tie.spec value-requires returns)
+blank-spec = tie.close (tie.spec (λ c κs. search needs) returns)

@@ -10,9 +10,6 @@ use Rattle.parts.proofs.width.value.Tie as tie
 returns : tie.Need-returns
 returns c = sym (value-wide _ _ (c .if1 .taken) (search needs))
 
-shl-result : tie.Need-shl-result
-shl-result c = search needs
-
 rem-result : tie.Need-rem-result
 rem-result c = omega (arith, shifted (c .before .args .width) (c .if1 .left), pow-pos (c .before .args .width))
 
@@ -23,4 +20,4 @@ returns-2 : tie.Need-returns-2
 returns-2 c = rw (shifted (c .before .args .width) (c .if1 .left))
 
 pub value-spec : {M : Type 1} → statement M
-value-spec = tie.close (tie.spec returns shl-result rem-result cast-result returns-2)
+value-spec = tie.close (tie.spec returns (λ c. search needs) rem-result cast-result returns-2)

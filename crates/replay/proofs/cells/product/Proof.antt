@@ -12,8 +12,5 @@ mul-result c =
     let hb : c .args .b ≤ 65535 = omega arith in
     omega (arith, mul-le-mul ha hb)
 
-returns : tie.Need-returns
-returns c = search needs
-
 pub product-spec : {M : Type 1} → statement M
-product-spec = tie.close (tie.spec mul-result returns)
+product-spec = tie.close (tie.spec mul-result (λ c. search needs))

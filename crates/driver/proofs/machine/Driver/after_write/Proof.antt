@@ -12,18 +12,9 @@ add-n : tie.Need-add-n
 unfolding afterWrite
 add-n c = omega (arith, write-count-le (c .before .args .self .command), c .before .pre)
 
-write-count-requires : tie.Need-write-count-requires
-write-count-requires c κs = search needs
-
-moved-to-requires : tie.Need-moved-to-requires
-moved-to-requires c κs = search needs
-
 returns : tie.Need-returns
 unfolding afterWrite
 returns c = simp (sym (c .before .before .write-count .ensures), c .moved-to .ensures) (search tests)
-
-moved-to-requires-2 : tie.Need-moved-to-requires-2
-moved-to-requires-2 c κs = search needs
 
 returns-2 : tie.Need-returns-2
 unfolding afterWrite
@@ -32,4 +23,4 @@ returns-2 c = simp (sym (c .before .before .write-count .ensures), c .moved-to2 
 pub after-write-spec : {M : Type 1} → statement M
 after-write-spec =
     tie.close
-    (tie.spec add-n write-count-requires moved-to-requires returns moved-to-requires-2 returns-2)
+    (tie.spec add-n (λ c κs. search needs) (λ c κs. search needs) returns (λ c κs. search needs) returns-2)

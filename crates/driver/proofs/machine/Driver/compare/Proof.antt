@@ -6,21 +6,9 @@ use Rattle.parts.proofs.Rules.{tests}
 use Rattle.driver.proofs.machine.Driver.compare.Statement.{statement}
 use Rattle.driver.proofs.machine.Driver.compare.Tie as tie
 
-value-requires : tie.Need-value-requires
-value-requires c κs = search needs
-
-value-wanted-requires : tie.Need-value-wanted-requires
-value-wanted-requires c κs = search needs
-
-end-requires : tie.Need-end-requires
-end-requires c κs = search needs
-
 returns : tie.Need-returns
 unfolding confirmingOf
 returns c = simp (sym (c .before .before .before .value .ensures), sym (c .before .before .value-wanted .ensures), c .end .ensures) (search tests)
-
-end-requires-2 : tie.Need-end-requires-2
-end-requires-2 c κs = search needs
 
 returns-2 : tie.Need-returns-2
 unfolding confirmingOf
@@ -29,4 +17,4 @@ returns-2 c = simp (sym (c .before .before .before .value .ensures), sym (c .bef
 pub compare-spec : {M : Type 1} → statement M
 compare-spec =
     tie.close
-    (tie.spec value-requires value-wanted-requires end-requires returns end-requires-2 returns-2)
+    (tie.spec (λ c κs. search needs) (λ c κs. search needs) (λ c κs. search needs) returns (λ c κs. search needs) returns-2)

@@ -3,42 +3,6 @@ use borrow.Author.Needs.{needs}
 use Rattle.driver.proofs.machine.Driver.count_fits.Statement.{statement}
 use Rattle.driver.proofs.machine.Driver.count_fits.Tie as tie
 
-enum-told : tie.Need-enum-told
-enum-told c = search needs
-
-write-count-requires : tie.Need-write-count-requires
-write-count-requires c κs = search needs
-
-enum-told-2 : tie.Need-enum-told-2
-enum-told-2 c = search needs
-
-polls-fit-requires : tie.Need-polls-fit-requires
-polls-fit-requires c κs = search needs
-
-enum-told-3 : tie.Need-enum-told-3
-enum-told-3 c = search needs
-
-some-polls-requires : tie.Need-some-polls-requires
-some-polls-requires c κs = search needs
-
-enum-told-4 : tie.Need-enum-told-4
-enum-told-4 c = search needs
-
-some-polls-requires-2 : tie.Need-some-polls-requires-2
-some-polls-requires-2 c κs = search needs
-
-enum-told-5 : tie.Need-enum-told-5
-enum-told-5 c = search needs
-
-all-polls-requires : tie.Need-all-polls-requires
-all-polls-requires c κs = search needs
-
-enum-told-6 : tie.Need-enum-told-6
-enum-told-6 c = search needs
-
-some-polls-requires-3 : tie.Need-some-polls-requires-3
-some-polls-requires-3 c κs = search needs
-
 returns : tie.Need-returns
 returns c = simp (c .before .before .enum-told .given .1, c .before .write-count .ensures)
 
@@ -61,18 +25,18 @@ pub count-fits-spec : {M : Type 1} → statement M
 count-fits-spec =
     tie.close
     (tie.spec
-    enum-told
-    write-count-requires
-    enum-told-2
-    polls-fit-requires
-    enum-told-3
-    some-polls-requires
-    enum-told-4
-    some-polls-requires-2
-    enum-told-5
-    all-polls-requires
-    enum-told-6
-    some-polls-requires-3
+    (λ c. search needs)
+    (λ c κs. search needs)
+    (λ c. search needs)
+    (λ c κs. search needs)
+    (λ c. search needs)
+    (λ c κs. search needs)
+    (λ c. search needs)
+    (λ c κs. search needs)
+    (λ c. search needs)
+    (λ c κs. search needs)
+    (λ c. search needs)
+    (λ c κs. search needs)
     returns
     returns-2
     returns-3

@@ -9,9 +9,6 @@ use Rattle.driver.proofs.Asked.{begun, start-found}
 use Rattle.driver.proofs.machine.Driver.in_range.Statement.{statement}
 use Rattle.driver.proofs.machine.Driver.in_range.Tie as tie
 
-start-refusal-requires : tie.Need-start-refusal-requires
-start-refusal-requires c κs = search needs
-
 returns : tie.Need-returns
 unfolding inRange
 returns c = let h = start-found (c .before .before .args .found) (c .before .before .args .self .part) (c .before .before .args .self .command) (c .before .before .args .self .address) (c .before .before .args .self .«data») (c .before .start-refusal .result) (c .before .before .pre) (c .before .before .args .self .p) (c .before .start-refusal .ensures) in
@@ -31,4 +28,4 @@ returns-2 c = let h = start-found (c .before .before .before .before .args .foun
 
 pub in-range-spec : {M : Type 1} → statement M
 in-range-spec =
-    tie.close (tie.spec start-refusal-requires returns count-fits-requires returns-2)
+    tie.close (tie.spec (λ c κs. search needs) returns count-fits-requires returns-2)

@@ -5,12 +5,6 @@ use Rattle.parts.proofs.Rules.{tests}
 use Rattle.driver.proofs.machine.Driver.is_match.Statement.{statement}
 use Rattle.driver.proofs.machine.Driver.is_match.Tie as tie
 
-bit-seven-requires : tie.Need-bit-seven-requires
-bit-seven-requires c κs = search needs
-
-bit-wanted-requires : tie.Need-bit-wanted-requires
-bit-wanted-requires c κs = search needs
-
 returns : tie.Need-returns
 unfolding matches
 returns c = simp (c .before .bit-seven .ensures, c .bit-wanted .ensures) (search tests)
@@ -20,4 +14,4 @@ unfolding matches
 returns-2 c = search tests
 
 pub is-match-spec : {M : Type 1} → statement M
-is-match-spec = tie.close (tie.spec bit-seven-requires bit-wanted-requires returns returns-2)
+is-match-spec = tie.close (tie.spec (λ c κs. search needs) (λ c κs. search needs) returns returns-2)

@@ -9,18 +9,9 @@ use Rattle.driver.proofs.Ready.{most-le}
 use Rattle.driver.proofs.machine.Driver.poll_on.Statement.{statement}
 use Rattle.driver.proofs.machine.Driver.poll_on.Tie as tie
 
-is-match-requires : tie.Need-is-match-requires
-is-match-requires c κs = search needs
-
-confirm-requires : tie.Need-confirm-requires
-confirm-requires c κs = search needs
-
 returns : tie.Need-returns
 unfolding pollingOf
 returns c = simp (sym (c .before .before .is-match .ensures) ∙ c .before .if1 .taken) (c .confirm .ensures)
-
-polls-left-requires : tie.Need-polls-left-requires
-polls-left-requires c κs = search needs
 
 poll-requires : tie.Need-poll-requires
 poll-requires c κs = let a = c .before .before .before .before .args in
@@ -31,9 +22,6 @@ returns-2 : tie.Need-returns-2
 unfolding pollingOf
 returns-2 c = simp (sym (c .before .before .before .before .is-match .ensures) ∙ c .before .before .before .if1 .left, sym (c .before .before .polls-left .ensures) ∙ c .before .if2 .taken) (c .poll .ensures)
 
-end-requires : tie.Need-end-requires
-end-requires c κs = search needs
-
 returns-3 : tie.Need-returns-3
 unfolding pollingOf
 returns-3 c = simp (sym (c .before .before .before .before .is-match .ensures) ∙ c .before .before .before .if1 .left, sym (c .before .before .polls-left .ensures) ∙ c .before .if2 .left) (c .end .ensures)
@@ -42,11 +30,11 @@ pub poll-on-spec : {M : Type 1} → statement M
 poll-on-spec =
     tie.close
     (tie.spec
-    is-match-requires
-    confirm-requires
+    (λ c κs. search needs)
+    (λ c κs. search needs)
     returns
-    polls-left-requires
+    (λ c κs. search needs)
     poll-requires
     returns-2
-    end-requires
+    (λ c κs. search needs)
     returns-3)

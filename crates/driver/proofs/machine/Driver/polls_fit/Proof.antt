@@ -8,12 +8,6 @@ use Rattle.driver.proofs.Polls.{one-less}
 use Rattle.driver.proofs.machine.Driver.polls_fit.Statement.{statement}
 use Rattle.driver.proofs.machine.Driver.polls_fit.Tie as tie
 
-sub-polls-left : tie.Need-sub-polls-left
-sub-polls-left c = search needs
-
-polls-left-requires : tie.Need-polls-left-requires
-polls-left-requires c κs = search needs
-
 returns : tie.Need-returns
 returns c = c .polls-left .ensures ∙ sym (one-less _ _ (c .before .if1 .taken))
 
@@ -21,4 +15,4 @@ returns-2 : tie.Need-returns-2
 returns-2 c = let a = c .before .args in sym (le-leb (a .self .count) (mostPolls (a .row) (a .self .command) (a .self .p)) (omega (arith, c .if1 .left)))
 
 pub polls-fit-spec : {M : Type 1} → statement M
-polls-fit-spec = tie.close (tie.spec sub-polls-left polls-left-requires returns returns-2)
+polls-fit-spec = tie.close (tie.spec (λ c. search needs) (λ c κs. search needs) returns returns-2)

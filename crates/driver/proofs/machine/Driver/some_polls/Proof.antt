@@ -5,9 +5,6 @@ use Rattle.parts.proofs.Rules.{tests}
 use Rattle.driver.proofs.machine.Driver.some_polls.Statement.{statement}
 use Rattle.driver.proofs.machine.Driver.some_polls.Tie as tie
 
-polls-fit-requires : tie.Need-polls-fit-requires
-polls-fit-requires c κs = search needs
-
 returns : tie.Need-returns
 returns c = simp (lt-ltb _ _ (c .before .if1 .taken)) (c .polls-fit .ensures)
 
@@ -15,4 +12,4 @@ returns-2 : tie.Need-returns-2
 returns-2 c = search tests
 
 pub some-polls-spec : {M : Type 1} → statement M
-some-polls-spec = tie.close (tie.spec polls-fit-requires returns returns-2)
+some-polls-spec = tie.close (tie.spec (λ c κs. search needs) returns returns-2)

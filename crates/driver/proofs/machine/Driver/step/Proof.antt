@@ -8,9 +8,6 @@ use Rattle.driver.proofs.Ready.{valid-start, writing-count, usual-row, 
 use Rattle.driver.proofs.machine.Driver.step.Statement.{statement}
 use Rattle.driver.proofs.machine.Driver.step.Tie as tie
 
-part-row-requires : tie.Need-part-row-requires
-part-row-requires c κs = search needs
-
 in-range-requires : tie.Need-in-range-requires
 in-range-requires c κs = c .part-row .ensures
 
@@ -18,44 +15,17 @@ returns : tie.Need-returns
 unfolding stepOf
 returns c = simp (sym (c .before .in-range .ensures) ∙ not-true _ (c .if1 .taken))
 
-enum-told : tie.Need-enum-told
-enum-told c = search needs
-
 write-on-requires : tie.Need-write-on-requires
 write-on-requires c κs = let t = sym (c .before .before .before .before .in-range .ensures) ∙ not-false _ (c .before .before .before .if1 .left) in
     (usual-row (c .before .before .before .before .before .before .args .self) (c .before .before .before .before .before .part-row .result .row) t (ap (λ (f : Found). f .row) (c .before .before .before .before .before .part-row .ensures)), writing-count (c .before .before .before .before .before .before .args .self) t (c .enum-told .given .1))
-
-enum-told-2 : tie.Need-enum-told-2
-enum-told-2 c = search needs
 
 poll-on-requires : tie.Need-poll-on-requires
 poll-on-requires c κs = let t = sym (c .before .before .before .before .in-range .ensures) ∙ not-false _ (c .before .before .before .if1 .left) in
     (usual-row (c .before .before .before .before .before .before .args .self) (c .before .before .before .before .before .part-row .result .row) t (ap (λ (f : Found). f .row) (c .before .before .before .before .before .part-row .ensures)), valid-start (c .before .before .before .before .before .before .args .self) t .some)
 
-enum-told-3 : tie.Need-enum-told-3
-enum-told-3 c = search needs
-
 compare-requires : tie.Need-compare-requires
 compare-requires c κs = let t = sym (c .before .before .before .before .in-range .ensures) ∙ not-false _ (c .before .before .before .if1 .left) in
     narrow-row (c .before .before .before .before .before .before .args .self) (c .before .before .before .before .before .part-row .result .row) t (ap (λ (f : Found). f .row) (c .before .before .before .before .before .part-row .ensures))
-
-enum-told-4 : tie.Need-enum-told-4
-enum-told-4 c = search needs
-
-end-requires : tie.Need-end-requires
-end-requires c κs = search needs
-
-enum-told-5 : tie.Need-enum-told-5
-enum-told-5 c = search needs
-
-end-requires-2 : tie.Need-end-requires-2
-end-requires-2 c κs = search needs
-
-enum-told-6 : tie.Need-enum-told-6
-enum-told-6 c = search needs
-
-end-requires-3 : tie.Need-end-requires-3
-end-requires-3 c κs = search needs
 
 returns-2 : tie.Need-returns-2
 unfolding stepOf
@@ -88,21 +58,21 @@ pub step-spec : {M : Type 1} → statement M
 step-spec =
     tie.close
     (tie.spec
-    part-row-requires
+    (λ c κs. search needs)
     in-range-requires
     returns
-    enum-told
+    (λ c. search needs)
     write-on-requires
-    enum-told-2
+    (λ c. search needs)
     poll-on-requires
-    enum-told-3
+    (λ c. search needs)
     compare-requires
-    enum-told-4
-    end-requires
-    enum-told-5
-    end-requires-2
-    enum-told-6
-    end-requires-3
+    (λ c. search needs)
+    (λ c κs. search needs)
+    (λ c. search needs)
+    (λ c κs. search needs)
+    (λ c. search needs)
+    (λ c κs. search needs)
     returns-2
     returns-3
     returns-4

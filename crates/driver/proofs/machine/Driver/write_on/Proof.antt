@@ -4,15 +4,9 @@ use Rattle.driver.specs.Machine.{writingOf}
 use Rattle.driver.proofs.machine.Driver.write_on.Statement.{statement}
 use Rattle.driver.proofs.machine.Driver.write_on.Tie as tie
 
-nth-write-requires : tie.Need-nth-write-requires
-nth-write-requires c κs = search needs
-
-after-write-requires : tie.Need-after-write-requires
-after-write-requires c κs = search needs
-
 returns : tie.Need-returns
 unfolding writingOf
 returns c = simp (c .before .nth-write .ensures, c .after-write .ensures)
 
 pub write-on-spec : {M : Type 1} → statement M
-write-on-spec = tie.close (tie.spec nth-write-requires after-write-requires returns)
+write-on-spec = tie.close (tie.spec (λ c κs. search needs) (λ c κs. search needs) returns)

@@ -9,21 +9,6 @@ use Rattle.driver.specs.declared.machine.Started.{Started}
 use Rattle.job.proofs.loader.Job.begin.Statement.{statement}
 use Rattle.job.proofs.loader.Job.begin.Tie as tie
 
-add-start : tie.Need-add-start
-add-start c = search needs
-
-add-start-2 : tie.Need-add-start-2
-add-start-2 c = search needs
-
-start-requires : tie.Need-start-requires
-start-requires c κs = search needs
-
-step-requires : tie.Need-step-requires
-step-requires c κs = search needs
-
-first-step-requires : tie.Need-first-step-requires
-first-step-requires c κs = search needs
-
 returns : tie.Need-returns
 unfolding beginOf
 returns c = let g = c .before .before .before .before .before .before .before .args in
@@ -39,10 +24,10 @@ pub begin-spec : {M : Type 1} → statement M
 begin-spec =
     tie.close
     (tie.spec
-    add-start
-    add-start-2
-    start-requires
-    step-requires
-    first-step-requires
+    (λ c. search needs)
+    (λ c. search needs)
+    (λ c κs. search needs)
+    (λ c κs. search needs)
+    (λ c κs. search needs)
     returns
     returns-2)

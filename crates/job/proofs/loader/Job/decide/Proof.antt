@@ -12,26 +12,8 @@ use Rattle.job.proofs.Turns.{part-length}
 use Rattle.job.proofs.loader.Job.decide.Statement.{statement}
 use Rattle.job.proofs.loader.Job.decide.Tie as tie
 
-cast-size : tie.Need-cast-size
-cast-size c = search needs
-
-add-end : tie.Need-add-end
-add-end c = search needs
-
 slice-aggregate-must-rise : tie.Need-slice-aggregate-must-rise
 slice-aggregate-must-rise c = sym (length-take-le (c .before .before .before .before .args .self .size) (c .before .before .before .before .args .seen .now) (search needs))
-
-mul-must-rise : tie.Need-mul-must-rise
-mul-must-rise c = search needs
-
-sub-must-rise : tie.Need-sub-must-rise
-sub-must-rise c = search needs
-
-part-must-rise-start : tie.Need-part-must-rise-start
-part-must-rise-start c = search needs
-
-part-must-rise-end : tie.Need-part-must-rise-end
-part-must-rise-end c = search needs
 
 must-rise-requires : tie.Need-must-rise-requires
 must-rise-requires c κs = let g = c .before .before .before .before .before .args in
@@ -39,18 +21,12 @@ must-rise-requires c κs = let g = c .before .before .before .before .before .ar
     let h : g .base + g .self .size ≤ length (g .image .now) = omega (arith, c .before .before .before .before .before .pre .0 .count, c .before .before .before .before .before .pre .1 .0) in
     rw e (length-take-le (g .self .size) (g .seen .now) (search needs) ∙ sym (part-length (g .image .now) (g .base) (g .self .size) h))
 
-begin-requires : tie.Need-begin-requires
-begin-requires c κs = search needs
-
 returns : tie.Need-returns
 unfolding decideOf
 returns c = let g = c .before .before .before .before .before .before .before .before .args in
     let e : g .base + g .self .size - g .base ≡ g .self .size = omega arith in
     let m : rises (g .self .row .width) (take (g .self .size) (g .seen .now)) (take (g .self .size) (drop (g .base) (g .image .now))) ≡ true = rw e at (sym (c .before .before .must-rise .ensures) ∙ c .before .if1 .taken) in
     simp m (c .begin .ensures)
-
-look-requires : tie.Need-look-requires
-look-requires c κs = search needs
 
 returns-2 : tie.Need-returns-2
 unfolding decideOf
@@ -63,15 +39,15 @@ pub decide-spec : {M : Type 1} → statement M
 decide-spec =
     tie.close
     (tie.spec
-    cast-size
-    add-end
+    (λ c. search needs)
+    (λ c. search needs)
     slice-aggregate-must-rise
-    mul-must-rise
-    sub-must-rise
-    part-must-rise-start
-    part-must-rise-end
+    (λ c. search needs)
+    (λ c. search needs)
+    (λ c. search needs)
+    (λ c. search needs)
     must-rise-requires
-    begin-requires
+    (λ c κs. search needs)
     returns
-    look-requires
+    (λ c κs. search needs)
     returns-2)

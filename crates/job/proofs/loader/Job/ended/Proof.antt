@@ -4,9 +4,6 @@ use borrow.Author.Tests.{eq-eqb, ne-eqb}
 use Rattle.job.proofs.loader.Job.ended.Statement.{statement}
 use Rattle.job.proofs.loader.Job.ended.Tie as tie
 
-then-requires : tie.Need-then-requires
-then-requires c κs = search needs
-
 returns : tie.Need-returns
 returns c = simp (eq-eqb _ _ (c .before .if1 .taken)) (c .then .ensures)
 
@@ -14,4 +11,4 @@ returns-2 : tie.Need-returns-2
 returns-2 c = simp (ne-eqb _ _ (c .if1 .left))
 
 pub ended-spec : {M : Type 1} → statement M
-ended-spec = tie.close (tie.spec then-requires returns returns-2)
+ended-spec = tie.close (tie.spec (λ c κs. search needs) returns returns-2)

@@ -6,9 +6,6 @@ use Rattle.parts.proofs.Rules.{tests}
 use Rattle.job.proofs.loader.Job.first_turn.Statement.{statement}
 use Rattle.job.proofs.loader.Job.first_turn.Tie as tie
 
-reads-cell-requires : tie.Need-reads-cell-requires
-reads-cell-requires c κs = search needs
-
 returns : tie.Need-returns
 unfolding firstOf
 returns c = simp (lt-ltb _ _ (c .before .if1 .taken)) (c .reads-cell .ensures)
@@ -18,4 +15,4 @@ unfolding firstOf
 returns-2 c = search tests
 
 pub first-turn-spec : {M : Type 1} → statement M
-first-turn-spec = tie.close (tie.spec reads-cell-requires returns returns-2)
+first-turn-spec = tie.close (tie.spec (λ c κs. search needs) returns returns-2)

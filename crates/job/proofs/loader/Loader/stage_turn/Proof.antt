@@ -35,24 +35,6 @@ drives j image seen Filling base i d reply k = refl
 drives j image seen Looking base i d reply k = absurd (fourth-not k)
 drives j image seen Burning base i d reply k = refl
 
-enum-told : tie.Need-enum-told
-enum-told c = search needs
-
-scanned-requires : tie.Need-scanned-requires
-scanned-requires c κs = search needs
-
-enum-told-2 : tie.Need-enum-told-2
-enum-told-2 c = search needs
-
-burn-requires : tie.Need-burn-requires
-burn-requires c κs = search needs
-
-step-requires : tie.Need-step-requires
-step-requires c κs = search needs
-
-driven-requires : tie.Need-driven-requires
-driven-requires c κs = search needs
-
 returns : tie.Need-returns
 returns c = simp (c .before .enum-told .given .1) (c .scanned .ensures)
 
@@ -67,12 +49,12 @@ pub stage-turn-spec : {M : Type 1} → statement M
 stage-turn-spec =
     tie.close
     (tie.spec
-    enum-told
-    scanned-requires
-    enum-told-2
-    burn-requires
-    step-requires
-    driven-requires
+    (λ c. search needs)
+    (λ c κs. search needs)
+    (λ c. search needs)
+    (λ c κs. search needs)
+    (λ c κs. search needs)
+    (λ c κs. search needs)
     returns
     returns-2
     returns-3)

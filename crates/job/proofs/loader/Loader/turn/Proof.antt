@@ -8,9 +8,6 @@ use Rattle.job.proofs.Within.{in-sector}
 use Rattle.job.proofs.loader.Loader.turn.Statement.{statement}
 use Rattle.job.proofs.loader.Loader.turn.Tie as tie
 
-is-within-requires : tie.Need-is-within-requires
-is-within-requires c κs = search needs
-
 returns : tie.Need-returns
 unfolding turnOf
 returns c = simp (sym (c .before .is-within .ensures) ∙ not-true _ (c .if1 .taken)) (refl, refl)
@@ -28,4 +25,4 @@ returns-2 c = let w = sym (c .before .before .before .before .before .before .is
 
 pub turn-spec : {M : Type 1} → statement M
 turn-spec =
-    tie.close (tie.spec is-within-requires returns keep-requires stage-turn-requires returns-2)
+    tie.close (tie.spec (λ c κs. search needs) returns keep-requires stage-turn-requires returns-2)

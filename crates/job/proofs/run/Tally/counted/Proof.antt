@@ -3,36 +3,6 @@ use borrow.Author.Needs.{needs}
 use Rattle.job.proofs.run.Tally.counted.Statement.{statement}
 use Rattle.job.proofs.run.Tally.counted.Tie as tie
 
-add-t : tie.Need-add-t
-add-t c = search needs
-
-enum-told : tie.Need-enum-told
-enum-told c = search needs
-
-add-t-2 : tie.Need-add-t-2
-add-t-2 c = search needs
-
-enum-told-2 : tie.Need-enum-told-2
-enum-told-2 c = search needs
-
-enum-known-purpose : tie.Need-enum-known-purpose
-enum-known-purpose c = search needs
-
-begun-requires : tie.Need-begun-requires
-begun-requires c κs = search needs
-
-enum-told-3 : tie.Need-enum-told-3
-enum-told-3 c = search needs
-
-add-t-3 : tie.Need-add-t-3
-add-t-3 c = search needs
-
-enum-told-4 : tie.Need-enum-told-4
-enum-told-4 c = search needs
-
-add-t-4 : tie.Need-add-t-4
-add-t-4 c = search needs
-
 returns : tie.Need-returns
 returns c = simp (c .before .enum-told .given .1)
 
@@ -52,16 +22,16 @@ pub counted-spec : {M : Type 1} → statement M
 counted-spec =
     tie.close
     (tie.spec
-    add-t
-    enum-told
-    add-t-2
-    enum-told-2
-    enum-known-purpose
-    begun-requires
-    enum-told-3
-    add-t-3
-    enum-told-4
-    add-t-4
+    (λ c. search needs)
+    (λ c. search needs)
+    (λ c. search needs)
+    (λ c. search needs)
+    (λ c. search needs)
+    (λ c κs. search needs)
+    (λ c. search needs)
+    (λ c. search needs)
+    (λ c. search needs)
+    (λ c. search needs)
     returns
     returns-2
     returns-3

@@ -4,12 +4,9 @@ use Rattle.parts.specs.Span.{blockOf}
 use Rattle.parts.proofs.table.Row.block_of.Statement.{statement}
 use Rattle.parts.proofs.table.Row.block_of.Tie as tie
 
-range-requires : tie.Need-range-requires
-range-requires c κs = search needs
-
 returns : tie.Need-returns
 unfolding blockOf
 returns c = c .range .ensures
 
 pub block-of-spec : {M : Type 1} → statement M
-block-of-spec = tie.close (tie.spec range-requires returns)
+block-of-spec = tie.close (tie.spec (λ c κs. search needs) returns)

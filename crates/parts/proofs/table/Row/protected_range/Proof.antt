@@ -6,18 +6,9 @@ use Rattle.parts.proofs.Rules.{tests}
 use Rattle.parts.proofs.table.Row.protected_range.Statement.{statement}
 use Rattle.parts.proofs.table.Row.protected_range.Tie as tie
 
-block-of-requires : tie.Need-block-of-requires
-block-of-requires c κs = search needs
-
 returns : tie.Need-returns
 unfolding protectedOf
 returns c = simp (eq-eqb _ _ (c .before .if1 .taken)) (c .block-of .ensures)
-
-last-requires : tie.Need-last-requires
-last-requires c κs = search needs
-
-block-of-requires-2 : tie.Need-block-of-requires-2
-block-of-requires-2 c κs = search needs
 
 returns-2 : tie.Need-returns-2
 unfolding protectedOf
@@ -30,4 +21,4 @@ returns-3 c = search tests
 pub protected-range-spec : {M : Type 1} → statement M
 protected-range-spec =
     tie.close
-    (tie.spec block-of-requires returns last-requires block-of-requires-2 returns-2 returns-3)
+    (tie.spec (λ c κs. search needs) returns (λ c κs. search needs) (λ c κs. search needs) returns-2 returns-3)

@@ -13,15 +13,9 @@ returns : tie.Need-returns
 unfolding timeOf
 returns c = let h : 4 ≤ c .before .args .command = omega arith in sym (List·getD-eq-default (times (c .before .args .self)) 0 h)
 
-mul-result : tie.Need-mul-result
-mul-result c = search needs
-
-array-read-result : tie.Need-array-read-result
-array-read-result c = search needs
-
 returns-2 : tie.Need-returns-2
 unfolding timeOf
 returns-2 c = search tests
 
 pub time-spec : {M : Type 1} → statement M
-time-spec = tie.close (tie.spec returns mul-result array-read-result returns-2)
+time-spec = tie.close (tie.spec returns (λ c. search needs) (λ c. search needs) returns-2)
