@@ -14,8 +14,8 @@ use Rattle.driver.proofs.Commands.{command-le, four}
 use Rattle.driver.specs.Refusals.{startRefusal}
 use Rattle.driver.specs.Writes.{lastWrite, writesOf, writeCount}
 use Rattle.driver.specs.Machine.{addressOf, dataOf, bitSeven, bitWanted, valueWanted, begun, startOf, inRange}
-use Rattle.driver.proofs.Asked.{Asked, beginning}
-use Rattle.driver.proofs.Asked as Asked
+use Rattle.driver.proofs.Asked.{beginning}
+use Rattle.driver.proofs.Asked as asks
 
 -- ---- what is kept of the address and the data asks for the same
 pub kept-address : (command a : ℕ) → addressOf command (addressOf command a) ≡ addressOf command a
@@ -59,12 +59,12 @@ module _ (part command a x p : ℕ) (accepted : startRefusal part command a x p 
   started = rw accepted
 
   pub few-commands : command ≤ 3
-  few-commands = command-le (rowOf part) command (Asked.begun part command a x p accepted .asked .target .has)
+  few-commands = command-le (rowOf part) command (asks.begun part command a x p accepted .asked .target .has)
 
   -- what is kept of the address and the data is accepted as well
   pub kept-accepted : startRefusal part command (addressOf command a) (dataOf command x) p ≡ 0
   kept-accepted =
-      let w = Asked.begun part command a x p accepted in
+      let w = asks.begun part command a x p accepted in
       let t = w .asked .target in
       beginning part command (addressOf command a) (dataOf command x) p
       (record {

@@ -1,7 +1,8 @@
 -- The tests for 2N polls: n polls are fewer than 2N where half of them, p apart, have not reached T.
-use Prim.Native.Nat.{ℕ, _-_, _*_, _/_, _≤_, _<_}
+use Prim.Native.Nat.{ℕ, _-_, _*_, _/_, _^_, _≤_, _<_}
 use mathlib.Core.Path.{_≡_, refl, sym}
 use mathlib.Core.Bool.{Bool, true, false}
+use native.Mathlib.Nat.{mul-le-mul-left, le-of-lt}
 use native.Mathlib.Omega.{arith}
 use borrow.Author.Tests.{ltb-true, ltb-false, leb-true, leb-false, lt-ltb, le-ltb, eq-eqb, ne-eqb}
 use lib.Dec.{eqb, ltb, leb}
@@ -9,6 +10,10 @@ use Rattle.parts.specs.Time.{timeOf, roundedUp}
 use Rattle.parts.specs.declared.table.Row.{Row}
 use Rattle.parts.proofs.Rounding.{fewer, least}
 use Rattle.driver.specs.Machine.{mostPolls}
+
+-- the µs passed fit their type
+pub product-fits : {a b : ℕ} → a < 2 ^ 32 → b < 2 ^ 32 → a * b < 2 ^ 64
+product-fits {a} {b} ha hb = omega (arith, mul-le-mul-left a (le-of-lt hb), ha)
 
 -- two tests that hold together
 same : (a b : Bool) → (a ≡ true → b ≡ true) → (a ≡ false → b ≡ false) → a ≡ b
