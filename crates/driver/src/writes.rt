@@ -6,7 +6,7 @@ ghost use Prim.Native.Nat.{_<_};
 ghost use lib.Dec.{eqb};
 ghost use Rattle.parts.specs.Pick.{pick};
 ghost use Rattle.driver.specs.Usual.{Usual};
-ghost use Rattle.driver.specs.Writes.{commandWrites, kth, kthWrite, lastWrite, nthWrite, write, writeCount, writes, writesOf};
+ghost use Rattle.driver.specs.Writes.{commandWrites, kthWrite, lastWrite, nthWrite, write, writeCount, writes, writesOf};
 
 pub struct Write {
     pub address: u32,

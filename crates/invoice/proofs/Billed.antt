@@ -1,5 +1,5 @@
 -- What `load` hands back of a job that is not refused: the range holds the image, no other cell has changed, and the bill follows document 01's formulas.
-use Prim.Native.Nat.{ℕ, _+_, _-_, _*_, _≤_}
+use Prim.Native.Nat.{ℕ, _+_, _*_, _≤_}
 use mathlib.Core.Path.{_≡_, refl, sym, ap, _∙_}
 use mathlib.Core.Bool.{Bool}
 use mathlib.Core.List.{List}

@@ -8,7 +8,7 @@ use crate::run::no_last;
 use crate::run::run;
 use crate::total::sum;
 ghost use mathlib.Core.Path.{_≡_};
-ghost use Prim.Native.Nat.{_-_, _≤_, _<_};
+ghost use Prim.Native.Nat.{_-_};
 ghost use Rattle.job.specs.Bill.{Timed, billOf, firstFew, fullOf, jobOf, loadOf, refusedBill, refusedReport, reportOf, reported};
 
 // The bill: µs saved and spent, then counts, the sum, and 0 or the refusal.

@@ -2,7 +2,6 @@
 use Prim.Native.Nat.{ℕ}
 use mathlib.Core.Path.{sym}
 use lib.ListN.{length-replicate}
-use borrow.Author.Needs.{needs}
 use Rattle.marked.proofs.part_7.Statement.{statement}
 use Rattle.marked.proofs.part_7.Tie as tie
 

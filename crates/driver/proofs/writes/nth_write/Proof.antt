@@ -4,8 +4,7 @@ use mathlib.Core.Path.{sym, ap, _∙_}
 use native.Mathlib.Omega.{arith}
 use borrow.Author.Needs.{needs}
 use lib.Dec.{eqb}
-use lib.ListN.{getD}
-use Rattle.driver.specs.Writes.{lastWrite, noWrite, nthWrite, writesOf, writeCount}
+use Rattle.driver.specs.Writes.{lastWrite, nthWrite, writesOf, writeCount}
 use Rattle.driver.proofs.Nth.{first-at, second-at, third-at, fourth-at, fifth-at, last-at}
 use Rattle.driver.proofs.Ready.{write-count-le}
 use Rattle.driver.proofs.writes.nth_write.Statement.{statement}
