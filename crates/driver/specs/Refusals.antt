@@ -20,16 +20,17 @@ targetRefusal r command a x =
     (pick (ltb a (r .cells)) (dataRefusal r command x) 3))
     14
 
--- of a command's writes, on a part that was looked up: 1, 14, 3, 4
+-- of a command's writes, on a part that was looked up
 abbrev pub commandOn : Found → ℕ → ℕ → ℕ → ℕ
 commandOn f command a x =
     pick (ltb 0 (f .answer)) (f .answer)
     (targetRefusal (f .row) command a x)
 
+-- of a command's writes: 1, 14, 3, 4
 unfoldable pub commandRefusal : ℕ → ℕ → ℕ → ℕ → ℕ
 commandRefusal part command a x = commandOn (foundOf part) command a x
 
--- of a driver's start, on a part that was looked up: 1, 10 for a polling interval that is not 1 to 1,000, 14, 3, 4
+-- of a driver's start, on a part that was looked up: 10 for a polling interval that is not 1 to 1,000
 abbrev pub startOn : Found → ℕ → ℕ → ℕ → ℕ → ℕ
 startOn f command a x p =
     pick (ltb 0 (f .answer)) (f .answer)
@@ -37,5 +38,6 @@ startOn f command a x p =
     (pick (ltb 1000 p) 10
     (targetRefusal (f .row) command a x)))
 
+-- of a driver's start: 1, 10, 14, 3, 4
 unfoldable pub startRefusal : ℕ → ℕ → ℕ → ℕ → ℕ → ℕ
 startRefusal part command a x p = startOn (foundOf part) command a x p
