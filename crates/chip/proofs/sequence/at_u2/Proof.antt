@@ -4,11 +4,5 @@ use Rattle.parts.proofs.Rules.{tests}
 use Rattle.chip.proofs.sequence.at_u2.Statement.{statement}
 use Rattle.chip.proofs.sequence.at_u2.Tie as tie
 
-returns : tie.Need-returns
-returns c = search tests
-
-returns-2 : tie.Need-returns-2
-returns-2 c = search tests
-
 pub at-u2-spec : {M : Type 1} → statement M
-at-u2-spec = tie.close (tie.spec (λ c. search needs) returns returns-2)
+at-u2-spec = tie.close (tie.spec (λ c. search needs) (λ c. search tests) (λ c. search tests))

@@ -7,8 +7,5 @@ use Rattle.driver.proofs.machine.bit_wanted.Tie as tie
 returns : tie.Need-returns
 returns c = simp (c .bit-seven .ensures) (search tests)
 
-returns-2 : tie.Need-returns-2
-returns-2 c = search tests
-
 pub bit-wanted-spec : {M : Type 1} → statement M
-bit-wanted-spec = tie.close (tie.spec (λ c κs. search needs) returns returns-2)
+bit-wanted-spec = tie.close (tie.spec (λ c κs. search needs) returns (λ c. search tests))

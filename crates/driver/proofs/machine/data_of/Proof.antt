@@ -3,11 +3,5 @@ use Rattle.parts.proofs.Rules.{tests}
 use Rattle.driver.proofs.machine.data_of.Statement.{statement}
 use Rattle.driver.proofs.machine.data_of.Tie as tie
 
-returns : tie.Need-returns
-returns c = search tests
-
-returns-2 : tie.Need-returns-2
-returns-2 c = search tests
-
 pub data-of-spec : {M : Type 1} → statement M
-data-of-spec = tie.close (tie.spec returns returns-2)
+data-of-spec = tie.close (tie.spec (λ c. search tests) (λ c. search tests))

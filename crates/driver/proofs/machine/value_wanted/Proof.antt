@@ -7,11 +7,8 @@ use Rattle.parts.proofs.Values.{blank-word}
 use Rattle.driver.proofs.machine.value_wanted.Statement.{statement}
 use Rattle.driver.proofs.machine.value_wanted.Tie as tie
 
-returns : tie.Need-returns
-returns c = search tests
-
 returns-2 : tie.Need-returns-2
 returns-2 c = simp (ne-eqb _ _ (c .before .if1 .left)) (c .blank .ensures ∙ blank-word _ (c .before .before .pre))
 
 pub value-wanted-spec : {M : Type 1} → statement M
-value-wanted-spec = tie.close (tie.spec returns (λ c κs. search needs) returns-2)
+value-wanted-spec = tie.close (tie.spec (λ c. search tests) (λ c κs. search needs) returns-2)

@@ -5,9 +5,6 @@ use Rattle.parts.proofs.Rules.{tests}
 use Rattle.driver.proofs.refusals.start_refusal.Statement.{statement}
 use Rattle.driver.proofs.refusals.start_refusal.Tie as tie
 
-returns : tie.Need-returns
-returns c = search tests
-
 returns-2 : tie.Need-returns-2
 returns-2 c = simp (le-ltb _ _ (c .before .if1 .left), eq-eqb _ _ (c .if2 .taken))
 
@@ -19,4 +16,4 @@ returns-4 c = simp (le-ltb _ _ (c .before .before .before .before .if1 .left), n
 
 pub start-refusal-spec : {M : Type 1} → statement M
 start-refusal-spec =
-    tie.close (tie.spec returns returns-2 returns-3 (λ c κs. search needs) returns-4)
+    tie.close (tie.spec (λ c. search tests) returns-2 returns-3 (λ c κs. search needs) returns-4)

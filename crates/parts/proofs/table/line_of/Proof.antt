@@ -1,5 +1,5 @@
 -- `parts::table::line_of` meets its contract: an arm's line is its part's, and the last arm has the one part that is left.
-use Prim.Native.Nat.{ℕ, _+_, _≤_}
+use Prim.Native.Nat.{ℕ, zero-le, _+_, _≤_}
 use mathlib.Core.Path.{_≡_, ap, sym}
 use native.Mathlib.Omega.{arith}
 use borrow.Author.Needs.{needs}
@@ -12,8 +12,10 @@ past k n h e = omega arith
 
 last : tie.Need-returns-11
 last c =
-    let h : 10 ≤ c .before .before .args .part = past 9 (c .before .before .args .part) (past 8 (c .before .before .args .part) (past 7 (c .before .before .args .part) (past 6 (c .before .before .args .part) (past 5 (c .before .before .args .part) (past 4 (c .before .before .args .part) (past 3 (c .before .before .args .part) (past 2 (c .before .before .args .part) (past 1 (c .before .before .args .part) (past 0 (c .before .before .args .part) (omega arith) (c .before .match .rest .0 .0 .0 .0 .0 .0 .0 .0 .0 .1)) (c .before .match .rest .0 .0 .0 .0 .0 .0 .0 .0 .1)) (c .before .match .rest .0 .0 .0 .0 .0 .0 .0 .1)) (c .before .match .rest .0 .0 .0 .0 .0 .0 .1)) (c .before .match .rest .0 .0 .0 .0 .0 .1)) (c .before .match .rest .0 .0 .0 .0 .1)) (c .before .match .rest .0 .0 .0 .1)) (c .before .match .rest .0 .0 .1)) (c .before .match .rest .0 .1)) (c .before .match .rest .1) in
-    let e : c .before .before .args .part ≡ 10 = omega (arith, c .before .before .pre) in
+    let n = c .before .before .args .part in
+    let r = c .before .match .rest in
+    let h : 10 ≤ n = past 9 n (past 8 n (past 7 n (past 6 n (past 5 n (past 4 n (past 3 n (past 2 n (past 1 n (past 0 n zero-le (r .0 .0 .0 .0 .0 .0 .0 .0 .0 .1)) (r .0 .0 .0 .0 .0 .0 .0 .0 .1)) (r .0 .0 .0 .0 .0 .0 .0 .1)) (r .0 .0 .0 .0 .0 .0 .1)) (r .0 .0 .0 .0 .0 .1)) (r .0 .0 .0 .0 .1)) (r .0 .0 .0 .1)) (r .0 .0 .1)) (r .0 .1)) (r .1) in
+    let e : n ≡ 10 = omega (arith, c .before .before .pre) in
     sym (ap lineOf e)
 
 pub line-of-spec : {M : Type 1} → statement M

@@ -8,8 +8,5 @@ use Rattle.driver.proofs.machine.Driver.some_polls.Tie as tie
 returns : tie.Need-returns
 returns c = simp (lt-ltb _ _ (c .before .if1 .taken)) (c .polls-fit .ensures)
 
-returns-2 : tie.Need-returns-2
-returns-2 c = search tests
-
 pub some-polls-spec : {M : Type 1} → statement M
-some-polls-spec = tie.close (tie.spec (λ c κs. search needs) returns returns-2)
+some-polls-spec = tie.close (tie.spec (λ c κs. search needs) returns (λ c. search tests))
