@@ -1,8 +1,8 @@
 -- What an accepted start hands back.
 use Prim.Native.Nat.{ℕ, _≤_}
-use mathlib.Core.Path.{_≡_, refl}
+use mathlib.Core.Path.{_≡_, refl, ap, sym, _∙_}
 use mathlib.Core.Bool.{Bool, true, false}
-use borrow.Author.Tests.{eq-eqb, ne-eqb}
+use borrow.Author.Tests.{eq-eqb, ne-eqb, eqb-true}
 use lib.Dec.{eqb, ltb}
 use Rattle.parts.specs.Pick.{pick}
 use Rattle.parts.specs.Table.{rowOf}
@@ -11,6 +11,8 @@ use Rattle.parts.specs.Width.{blankOf}
 use Rattle.parts.specs.declared.table.Row.{Row}
 use Rattle.chip.specs.Sequence.{ignored}
 use Rattle.driver.proofs.Commands.{command-le, four}
+use Rattle.driver.specs.declared.machine.Phase.the-variants.{Writing}
+use Rattle.driver.specs.declared.machine.Started.{Started}
 use Rattle.driver.specs.Refusals.{startRefusal}
 use Rattle.driver.specs.Writes.{lastWrite, writesOf, writeCount}
 use Rattle.driver.specs.Machine.{addressOf, dataOf, bitSeven, bitWanted, valueWanted, begun, startOf, inRange}
@@ -76,3 +78,15 @@ module _ (part command a x p : ℕ) (accepted : startRefusal part command a x p 
   pub start-range : inRange (begun part command a x p) ≡ true
   unfolding inRange writeCount
   start-range = rw kept-accepted (split (λ (n : ℕ). ltb 0 n ≡ true) (eqb command 0) 4 6 (λ _. refl) (λ _. refl))
+
+-- ---- what a start that answers 0 hands back: a driver in range that has named nothing
+answered : (part command a x p : ℕ) → startOf part command a x p .answer ≡ startRefusal part command a x p
+unfolding startOf
+answered part command a x p =
+    split (λ (s : Started). s .answer ≡ startRefusal part command a x p) (eqb (startRefusal part command a x p) 0) _ _ (λ t. sym (eqb-true _ 0 t)) (λ _. refl)
+
+pub is-begun : (part command a x p : ℕ) (s : Started) → s ≡ startOf part command a x p → s .answer ≡ 0
+    → (inRange (s .driver) ≡ true) × ((s .driver .phase ≡ Writing) × (s .driver .count ≡ 0))
+is-begun part command a x p s e z =
+    let n : startRefusal part command a x p ≡ 0 = sym (answered part command a x p) ∙ (sym (ap (λ (s : Started). s .answer) e) ∙ z) in
+    rw (e ∙ started part command a x p n) (start-range part command a x p n, (refl, refl))

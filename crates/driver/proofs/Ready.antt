@@ -49,6 +49,10 @@ pub write-count-le : (command : ℕ) → writeCount command ≤ 6
 unfolding writeCount
 write-count-le command = split (λ (n : ℕ). n ≤ 6) (eqb command 0) 4 6 (λ _. omega arith) (λ _. omega arith)
 
+pub write-count-some : (command : ℕ) → 4 ≤ writeCount command
+unfolding writeCount
+write-count-some command = split (λ (n : ℕ). 4 ≤ n) (eqb command 0) 4 6 (λ _. omega arith) (λ _. omega arith)
+
 -- ---- a state in range
 pub valid-start : (d : Driver) → inRange d ≡ true → Begun (d .part) (d .command) (d .address) (d .«data») (d .p)
 unfolding inRange

@@ -19,10 +19,11 @@ use Rattle.driver.specs.declared.machine.Next.{Next}
 use Rattle.driver.specs.declared.machine.Next.the-variants.{Nothing, Send}
 use Rattle.driver.specs.declared.machine.Step.{Step}
 use Rattle.driver.specs.Refusals.{startRefusal}
-use Rattle.driver.specs.Writes.{writeCount}
+use Rattle.driver.specs.Writes.{writeCount, kthWrite}
 use Rattle.driver.specs.Machine.{mostPolls, someUpTo, countFits, inRange, moved, step, ending, final, ended, valueWanted, afterWrite, nextWrite, writingOf, polls, confirms, matches, pollingOf, confirmingOf, phaseOf, stepOf}
 use Rattle.driver.specs.Talk.{cycle, pollsIn}
-use Rattle.driver.proofs.Ready.{valid-start, valid-count}
+use Rattle.driver.proofs.Asked.{asking}
+use Rattle.driver.proofs.Ready.{write-count-some, valid-start, valid-count}
 
 -- a step of a state in range, and of one that is not
 pub goes : (d : Driver) (read : ℕ) → inRange d ≡ true → stepOf d read ≡ phaseOf (rowOf (d .part)) (d .phase) d read
@@ -38,6 +39,15 @@ pub moved-in-range : (d : Driver) (f : Phase) (n : ℕ) → inRange d ≡ true
     → countFits f (writeCount (d .command)) (mostPolls (rowOf (d .part)) (d .command) (d .p)) n ≡ true → inRange (moved d f n) ≡ true
 unfolding inRange
 moved-in-range d f n e c = rw (both (eqb (startRefusal (d .part) (d .command) (d .address) (d .«data») (d .p)) 0) _ e .0) c
+
+-- a driver's first step names the command's write 0
+pub first-step : (d : Driver) → inRange d ≡ true → d .phase ≡ Writing → d .count ≡ 0
+    → stepOf d 0 ≡ step 0 (moved d Writing 1) (Send 0 (Write (kthWrite (d .part) (d .command) (d .address) (d .«data») 0 .address) (kthWrite (d .part) (d .command) (d .address) (d .«data») 0 .«data»))) 0
+unfolding writingOf afterWrite kthWrite
+first-step d e f z =
+    let n = writeCount (d .command) in
+    let h = write-count-some (d .command) in
+    goes d 0 e ∙ simp (f, z, lt-ltb 1 n (omega (arith, h)), lt-ltb 0 n (omega (arith, h)), eq-eqb _ 0 (asking _ _ _ _ (valid-start d e .asked)))
 
 -- ---- the ways that a step can go
 -- the polls named before a phase's count

@@ -12,7 +12,9 @@ ghost use mathlib.Core.Path.{_≡_};
 ghost use Prim.Native.Nat.{_+_, _≤_, _<_};
 ghost use lib.ListN.{length};
 ghost use lib.Dec.{eqb};
+ghost use mathlib.Core.Bool.{true};
 ghost use Rattle.parts.specs.Pick.{pick};
+ghost use Rattle.driver.specs.Machine.{inRange, stepOf};
 ghost use Rattle.job.specs.Loader.{afterwards, beginOf, burnOf, decideOf, drivenOf, fillOf, firstOf, firstStep, goesOn, lookOf, nobody, polling, purposeOf, readsCell, scannedOf, seenOf, stageOf, turnOf, within};
 ghost use Rattle.job.specs.Kept.{Kept};
 
@@ -128,21 +130,23 @@ impl Job {
         let started = driver::start(self.part, command, self.first + (base + at), data, self.p);
         if started.answer == 0 {
             let d = started.driver;
-            return self.first_step(stage, base, at, d.step(0));
+            return self.first_step(stage, base, at, d);
         }
         Turn::Stop(started.answer)
     }
 
-    // A driver's first step.
-    fn first_step(self, stage: Stage, base: u32, at: u32, step: Step) -> Turn
-        ensures { λ r. ⌜ r ≡ firstStep self stage base at step ⌝ }
+    // A started driver's first step. It names the command's write 0, which the k-th write gives too: a step is called at one place
+    // only, and the compiler puts it there.
+    fn first_step(self, stage: Stage, base: u32, at: u32, d: Driver) -> Turn
+        requires { ⌜ inRange d ≡ true ⌝ }
+        requires { ⌜ (d .phase ≡ Phase.Writing) × (d .count ≡ 0) ⌝ }
+        ensures { λ r. ⌜ r ≡ firstStep self stage base at (stepOf d 0) ⌝ }
     {
-        let next = step.next;
-        let d = step.driver;
-        match next {
-            Next::Nothing => Turn::Stop(step.answer),
-            Next::Send(elapsed, action) => self.goes_on(stage, base, at, d, elapsed, action),
-        }
+        let w = driver::kth_write(d.part, d.command, d.address, d.data, 0);
+        let write = Action::Write(w.address, w.data);
+        let mut named = d;
+        named.count = 1;
+        self.goes_on(stage, base, at, named, 0, write)
     }
 
     // The cycle that a driver names.
