@@ -10,14 +10,14 @@ use mathlib.Core.List.{List, []}
 use native.Mathlib.Omega.{arith}
 use borrow.Author.Tests.{ne-eqb, eqb-true, ltb-true}
 use lib.Dec.{eqb, ltb}
-use lib.ListN.{length, getD, List·getD-eq-default}
+use lib.ListN.{length, List·getD-eq-default}
 use contract.Lifetimes.{Lfts}
 use borrow.Fn.Kinds.{Dens, endedOf, resT}
 use denote.Triple.Clauses.{AtExit}
 use Rattle.parts.specs.Pick.{pick}
 use Rattle.parts.specs.Width.{valueOf}
 use Rattle.parts.specs.Table.{noLine, lines, lineOf, rowFrom, rowOf, partRefusal}
-use Rattle.parts.specs.Figures.{figure, columns, figureOf}
+use Rattle.parts.specs.Figures.{figure, figureRefusal, figureOf}
 use Rattle.parts.specs.declared.table.Row.{Row}
 use Rattle.parts.specs.declared.figure.Figure.{Figure}
 use Rattle.parts.specs.declared.table.Found.{Found}
@@ -209,21 +209,9 @@ module _ (κs : Lfts 0) (a : Dens κs kth-kinds.ps) (x : resT kth-kinds.r κs .D
   kth-write-refuses = rw promise (kth-refuses (a .0) (a .1 .0) (a .1 .1 .0) (a .1 .1 .1 .0) (a .1 .1 .1 .1 .0))
 
 -- ---- part figures: 1, 15
-abbrev pub figureRefusal : ℕ → ℕ → ℕ
-figureRefusal part column = pick (ltb 0 (partRefusal part)) (partRefusal part) (pick (ltb 6 column) 15 0)
-
 figures-refuse : (part column : ℕ) → Refuses {A = Figure} (figureOf part column .answer) (figureRefusal part column) (figureOf part column) (figure (figureRefusal part column) 0)
 unfolding figureOf
-figures-refuse part column = by (ltb 0 (partRefusal part)) (ltb 6 column)
-  where
-    v : ℕ
-    v = getD (columns (rowOf part)) column 0
-
-    by : (t u : Bool) → Refuses {A = Figure} (pick t (figure (partRefusal part) 0) (pick u (figure 15 0) (figure 0 v)) .answer) (pick t (partRefusal part) (pick u 15 0))
-        (pick t (figure (partRefusal part) 0) (pick u (figure 15 0) (figure 0 v))) (figure (pick t (partRefusal part) (pick u 15 0)) 0)
-    by true u = (refl, λ e. refl)
-    by false true = (refl, λ e. refl)
-    by false false = (refl, λ e. absurd (e refl))
+figures-refuse part column = by-test (λ (f : Figure). f .answer) (figureRefusal part column) _ _ refl refl
 
 module _ (κs : Lfts 0) (a : Dens κs figure-kinds.ps) (x : resT figure-kinds.r κs .Denot) (s : AtExit (endedOf 0 figure-kinds.ps figure-kinds.r) κs) (promise : figure-reads.Post κs a x s) where
   -- A refused part_figure(part, column) answers its number, and 0 for the figure.
