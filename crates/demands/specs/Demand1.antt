@@ -6,7 +6,8 @@ use Prim.Native.Nat.{ℕ}
 use mathlib.Core.Path.{_≡_}
 use mathlib.Core.Bool.{false}
 use mathlib.Core.List.{[]}
-use Rattle.parts.specs.Pick.{pick}
+use Rattle.parts.specs.Names.{BAD-STATE, BAD-FILE}
+use Rattle.parts.specs.Pick.{_when_, _else_}
 use Rattle.parts.specs.Table.{noLine, rowFrom, partRefusal}
 use Rattle.parts.specs.Figures.{figure}
 use Rattle.parts.specs.declared.figure.Figure.{Figure}
@@ -33,8 +34,8 @@ pub record Refuses (A : Type 0) (answer n : ℕ) (back should : A) : Type 0 wher
 
 -- a driver's step answers 5 exactly for a state out of range, and then names no cycle and hands back the state as it came
 pub record RefusesState (d : Driver) (back : Step) : Type 0 where
-  pub only : back .answer ≡ 5 → inRange d ≡ false
-  pub beside : inRange d ≡ false → back ≡ step 5 d Nothing 0
+  pub only : back .answer ≡ BAD-STATE → inRange d ≡ false
+  pub beside : inRange d ≡ false → back ≡ step BAD-STATE d Nothing 0
 
 pub record Demand1 : Type 0 where
   -- A refused bus cycle answers its number, value 0 and the device as it came, and leaves the cells as they came.
@@ -64,7 +65,7 @@ pub record Demand1 : Type 0 where
   pub figure-refuses : (c : FigureCall) → let n = refusedFigure (figureAsked (c .given)) in
       Refuses Figure (c .back .answer) n (c .back) (figure n 0)
   -- A job file: 13 exactly for a malformed one, with zeros beside it.
-  pub file-refuses : (c : FileCall) → let n = pick {A = ℕ} (malformed (toRead c .file)) 13 0 in
+  pub file-refuses : (c : FileCall) → let n = BAD-FILE when malformed (toRead c .file) else 0 in
       Refuses JobFile (c .back .answer) n (c .back) refused
   -- The C controller's functions: the answer is the number, and the number asked for is 0 beside a refusal.
   pub station-figure-refuses : (c : StationFigureCall) → (refusedFigure (figureAsked (c .given)) ≡ 0 → ⊥) → c .back ≡ 0

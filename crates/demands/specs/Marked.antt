@@ -13,8 +13,10 @@ use Rattle.chip.specs.declared.cycle.Reply.{Reply}
 use Rattle.chip.specs.Device.{freshDevice, busy}
 use Rattle.chip.specs.Cycle.{Chip, chip, Outcome, cycleOf}
 use Rattle.chip.specs.Trace.{leaves}
+use Rattle.driver.specs.Talk.{cycle}
 use Rattle.job.specs.declared.bill.Bill.{Bill}
 use Rattle.job.specs.Bill.{Loaded, loadOf}
+use Rattle.invoice.specs.Started.{isRead}
 
 -- ---- a case of bus cycles
 -- a cell by its address, and what it holds
@@ -39,19 +41,19 @@ pub record Case : Type 0 where
 
 -- ---- cycles: writes with WP# high at 0 µs, reads and others after some µs
 abbrev pub write : ℕ → ℕ → Cycle
-write a x = record { elapsed = 0; wp = true; action = Write a x }
+write a x = cycle 0 true (Write a x)
 
 abbrev pub writeLow : ℕ → ℕ → Cycle
-writeLow a x = record { elapsed = 0; wp = false; action = Write a x }
+writeLow a x = cycle 0 false (Write a x)
 
 abbrev pub read : ℕ → ℕ → Cycle
-read e a = record { elapsed = e; wp = true; action = Read a }
+read e a = cycle e true (Read a)
 
 abbrev pub idleFor : ℕ → Cycle
-idleFor e = record { elapsed = e; wp = true; action = Idle }
+idleFor e = cycle e true Idle
 
 abbrev pub cut : ℕ → Cycle
-cut s = record { elapsed = 0; wp = true; action = Cut s }
+cut s = cycle 0 true (Cut s)
 
 -- the writes in front of a program's data and of an erase's last write, at unlock addresses u and v
 abbrev pub arm : ℕ → ℕ → List Cycle
@@ -327,12 +329,6 @@ cases =
     ∷ []
 
 -- ---- a case holds: every cycle is accepted, and what is shown and left is as it says
-abbrev pub isRead : Action → Bool
-isRead (Read a) = true
-isRead (Write a x) = false
-isRead Idle = false
-isRead (Cut s) = false
-
 -- whether every cycle is accepted, the values of the reads among them, and the chip at the end
 pub record Ran : Type 0 where
   pub accepted : Bool

@@ -27,7 +27,7 @@ bounds-hold s a l h = simp (le-ltb a (s .first) l, lt-ltb (a - s .first) (s .cou
 
 -- ---- ranges of any size
 module _ (size : ℕ) (some : 0 < size) where
-  pub range-holds : (a : ℕ) → holdsb (rangeOf size a) a ≡ true
+  range-holds : (a : ℕ) → holdsb (rangeOf size a) a ≡ true
   range-holds a = bounds-hold (rangeOf size a) a (div-mul-le-self a size) (lt-div-mul-add some)
 
   -- an address in a range has that range
@@ -38,7 +38,7 @@ module _ (size : ℕ) (some : 0 < size) where
       ap (λ (q : ℕ). span (q * size) size) e
 
   -- two ranges that share an address are the same
-  pub range-apart : (a b x : ℕ) → holdsb (rangeOf size a) x ≡ true → holdsb (rangeOf size b) x ≡ true → rangeOf size a ≡ rangeOf size b
+  range-apart : (a b x : ℕ) → holdsb (rangeOf size a) x ≡ true → holdsb (rangeOf size b) x ≡ true → rangeOf size a ≡ rangeOf size b
   range-apart a b x h i = sym (range-same a x h) ∙ range-same b x i
 
   -- where the cells are whole ranges, the range of one of them lies among them
@@ -49,7 +49,7 @@ module _ (size : ℕ) (some : 0 < size) where
       omega (arith, e, suc-mul (a / size) size, mul-le-mul-right size q)
 
 -- a range of a size that divides another lies in one range of that
-pub range-inside : (small large a : ℕ) → 0 < small → 0 < large → large % small ≡ 0 → (a / large * large ≤ a / small * small) × (a / small * small + small ≤ a / large * large + large)
+range-inside : (small large a : ℕ) → 0 < small → 0 < large → large % small ≡ 0 → (a / large * large ≤ a / small * small) × (a / small * small + small ≤ a / large * large + large)
 range-inside small large a s l z =
     let m = large / small in
     let e : m * small ≡ large = omega (arith, div-add-mod' large small) in
