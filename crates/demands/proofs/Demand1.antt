@@ -17,8 +17,7 @@ use Rattle.parts.specs.declared.table.Found.{Found}
 use Rattle.parts.proofs.Every.{split}
 use Rattle.chip.specs.declared.cycle.Action.{Action}
 use Rattle.chip.specs.declared.cycle.Action.the-variants.{Read, Write, Idle, Cut}
-use Rattle.chip.specs.Device.{busy}
-use Rattle.chip.specs.Cycle.{Chip, Outcome, settledOf, readOf, writeOf, cutOf, actedOf, acceptedOf, cycleOf}
+use Rattle.chip.specs.Cycle.{Chip, chip, Outcome, passed, actedOf, acceptedOf, cycleOf}
 use Rattle.driver.specs.declared.machine.Started.{Started}
 use Rattle.driver.specs.declared.writes.Writes.{Writes}
 use Rattle.driver.specs.declared.writes.Kth.{Kth}
@@ -48,8 +47,7 @@ by-test answer n good bad g b = record { exactly = by (eqb n 0) refl; beside = �
 
 -- ---- what an accepted bus cycle answers
 acted-answers : (r : Row) (h : Chip) (wp : Bool) (a : Action) → actedOf r h wp a .reply .answer ≡ 0
-unfolding readOf writeOf cutOf
-acted-answers r h wp (Read a) = split (λ (o : Outcome). o .reply .answer ≡ 0) (busy (h .device)) _ _ (λ _. refl) (λ _. refl)
+acted-answers r h wp (Read a) = refl
 acted-answers r h wp (Write a x) = refl
 acted-answers r h wp Idle = refl
 acted-answers r h wp (Cut c) = refl
@@ -129,7 +127,7 @@ demand-1 =
     record {
       bus-cycle-refuses = λ c. let g = onBus c in
           rw (c .promise .0, c .promise .1)
-          (by-test (λ (o : Outcome). o .reply .answer) (busRefusal g) _ _ (acted-answers _ (settledOf _ (g .cells) (g .device) (g .cycle .elapsed)) (g .cycle .wp) (g .cycle .action)) refl);
+          (by-test (λ (o : Outcome). o .reply .answer) (busRefusal g) _ _ (acted-answers _ (passed _ (chip (g .cells) (g .device)) (g .cycle .elapsed)) (g .cycle .wp) (g .cycle .action)) refl);
       start-refuses = λ c. rw (c .promise) (by-test (λ (t : Started). t .answer) (refusedStart (toStart c)) _ _ refl refl);
       step-refuses = step-refuses;
       writes-refuses = λ c. rw (c .promise) (by-test (λ (t : Writes). t .answer) (refusedWrites (toWrite c)) _ _ refl refl);

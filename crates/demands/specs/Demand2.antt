@@ -12,14 +12,13 @@ use Rattle.parts.specs.Width.{valueOf}
 use Rattle.parts.specs.Table.{rowOf}
 use Rattle.parts.specs.Time.{pollsOf}
 use Rattle.parts.specs.declared.table.Row.{Row}
-use Rattle.chip.specs.declared.device.Mode.the-variants.{ReadMode}
 use Rattle.chip.specs.declared.device.Device.{Device}
 use Rattle.chip.specs.declared.device.Operation.{Operation}
 use Rattle.chip.specs.declared.cycle.Action.the-variants.{Read}
 use Rattle.chip.specs.declared.cycle.Cycle.{Cycle}
-use Rattle.chip.specs.Device.{device, freshDevice, idle}
+use Rattle.chip.specs.Device.{busyWith, device, freshDevice, idle}
 use Rattle.chip.specs.Sequence.{ignored}
-use Rattle.chip.specs.Cycle.{chip, settledOf, actedOf}
+use Rattle.chip.specs.Cycle.{chip, passed, actedOf}
 use Rattle.chip.specs.Trace.{play, startedIn}
 use Rattle.driver.specs.declared.machine.Phase.{Phase}
 use Rattle.driver.specs.declared.machine.Phase.the-variants.{Writing, Polling, Confirming, Done, GaveUp, Differs}
@@ -68,17 +67,17 @@ noRead GaveUp n = true
 noRead Differs n = true
 
 pub record Demand2 : Type 0 where
-  -- Of a bus cycle that is not refused, first time passes (`settledOf`), then the cycle acts (`actedOf`): that gives the
+  -- Of a bus cycle that is not refused, first time passes (`passed`), then the cycle acts (`actedOf`): that gives the
   -- value, the state and the cells.
   pub cycle-acts : (c : BusCall) → let g = onBus c in busRefusal g ≡ 0
       → let r = rowOf (g .part) in
-      busLeft c ≡ actedOf r (settledOf r (g .cells) (g .device) (g .cycle .elapsed)) (g .cycle .wp) (g .cycle .action)
+      busLeft c ≡ actedOf r (passed r (chip (g .cells) (g .device)) (g .cycle .elapsed)) (g .cycle .wp) (g .cycle .action)
   -- A command's writes, sent at 0 µs, leave the cells as they were and the device running the operation asked for, with its
   -- whole table time left.
   pub writes-run : (c : WritesCall) → let g = toWrite c in refusedWrites g ≡ 0
       → (cells : List ℕ) (d : Device) (wp : Bool) → IdleUnprotected (g .part) (g .command) (g .address) cells d wp
       → play (g .part) (chip cells d) (writeCycles wp (take (c .back .count) (c .back .writes)))
-      ≡ chip cells (device ReadMode 0 (operationOf (rowOf (g .part)) (g .command) (g .address) (g .word)))
+      ≡ chip cells (device (busyWith (d .core) (operationOf (rowOf (g .part)) (g .command) (g .address) (g .word))) 0)
   -- And they start that operation and no other.
   pub writes-start : (c : WritesCall) → let g = toWrite c in refusedWrites g ≡ 0
       → (cells : List ℕ) (d : Device) (wp : Bool) → IdleUnprotected (g .part) (g .command) (g .address) cells d wp

@@ -372,7 +372,7 @@ asSaid k r =
     false unless r .accepted
     else false unless sameList (r .reads) (k .reads)
     else false unless holdsAll (r .chip .cells) (k .cells)
-    else sameBool (busy (r .chip .device)) (k .pending)
+    else sameBool (busy (r .chip .device .core)) (k .pending)
 
 -- cells in which some hold something else
 abbrev pub holding : List ℕ → List Cell → List ℕ
