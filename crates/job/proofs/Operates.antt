@@ -13,9 +13,10 @@ use Rattle.parts.specs.Time.{pollsOf}
 use Rattle.parts.specs.declared.table.Row.{Row}
 use Rattle.chip.specs.declared.cycle.Action.the-variants.{Read}
 use Rattle.chip.specs.declared.cycle.Cycle.{Cycle}
-use Rattle.chip.specs.Device.{freshDevice, idle}
+use Rattle.chip.specs.Device.{freshDevice}
 use Rattle.chip.specs.Sequence.{ignored}
 use Rattle.chip.specs.Cycle.{Chip, chip}
+use Rattle.chip.proofs.Idle.{fresh-idle}
 use Rattle.driver.specs.declared.machine.Phase.the-variants.{Polling, Done}
 use Rattle.driver.specs.declared.machine.Driver.{Driver}
 use Rattle.driver.specs.declared.machine.Next.{Next}
@@ -86,8 +87,7 @@ module _ (j : Job) (image : List ℕ) (right : j .row ≡ rowOf (j .part)) (s : 
 
     talk-is : talk (j .part) (j .wp) fuel first (chipOf w)
         ≡ told (cycles (addressOf command at)) (chip (completed (rowOf (j .part)) command at x (w .cells)) freshDevice) last
-    unfolding idle
-    talk-is = succeeds (j .part) command at x (j .p) (j .wp) (w .cells) (w .held .device) accepted whole (rw rest) heeded same fuel 0 (le-refl fuel)
+    talk-is = succeeds (j .part) command at x (j .p) (j .wp) (w .cells) (w .held .device) accepted whole (rw rest fresh-idle) heeded same fuel 0 (le-refl fuel)
 
     -- the driver's first step names a write
     begins : beginOf j s base i command x ≡ drivenOf j image s base i first
