@@ -31,16 +31,18 @@ use Rattle.driver.specs.Machine.{addressOf, valueWanted, startOf, stepOf}
 use Rattle.driver.specs.Talk.{talk, writeCycles, operationOf, completed, shownAfter, shows, cycle}
 use Rattle.driver.proofs.Theorems.{succeeds, program-shows, erase-shows}
 use Rattle.job.specs.declared.loader.Job.{Job}
-use Rattle.job.specs.Search.{rises}
+use Rattle.job.specs.declared.search.Decision.{Decision}
+use Rattle.job.specs.declared.search.Decision.the-variants.{NoErase, SectorErase}
+use Rattle.job.specs.Search.{decisionOf}
 use Rattle.job.specs.Run.{Sent, World, world, noneSent, playOf}
-use Rattle.job.specs.Sent.{operated, scanRead, scans, fills, looks, sectorSent, sectorsSent, sentOf}
+use Rattle.job.specs.Sent.{operated, scanRead, scans, fills, looks, carries, decidedOn, sectorSent, sectorsSent, sentOf}
 use Rattle.job.proofs.Rest.{chipOf, talk-stops, talk-goes}
 use Rattle.job.proofs.Right.{Right, program-starts, erase-starts, fit-at}
 use Rattle.job.proofs.Clears.{cleared}
 use Rattle.job.proofs.Left.{program-leaves, erase-length, erase-drop, erase-at, erase-leaves}
 use Rattle.job.proofs.Sectors.{Ready, Read-on, reads-on}
 use Rattle.invoice.specs.Started.{cyclesIn}
-use Rattle.invoice.proofs.Listed.{programming, filling, looking, sectoring, sectoringAll, operationsOf}
+use Rattle.invoice.proofs.Listed.{programming, filling, looking, carrying, sectoring, sectoringAll, operationsOf}
 use Rattle.invoice.proofs.Starts.{world-plays, play-append, operated-cycles, Starts, starts-none, starts-append, starts-read, starts-operated}
 
 -- ---- a talk leaves what its cycles leave
@@ -308,18 +310,13 @@ module _ (j : Job) (image : List ℕ) (R : Right j image) where
   -- ---- one sector, that holds l and is to hold v
   module _ (a : ℕ) (l v : List ℕ) (aligned : a % j .size ≡ 0) (ln : length l ≡ j .size) (lv : length v ≡ j .size) (some : 0 < j .size)
       (fit : (i : ℕ) → i < length v → fitsIn (r .width) (getD v i 0) ≡ true) (m : Along a v) (room : a + j .size ≤ r .cells) where
-    clear-cells : (w : World) → SameAs l w a (j .size) → rises (r .width) (map value l) v ≡ false → Each Clear w a v
+    clear-cells : (w : World) → SameAs l w a (j .size) → decisionOf (r .width) (map value l) v ≡ NoErase → Each Clear w a v
     clear-cells w s e = λ i h. rw (s i (omega arith)) at (cleared (r .width) l v i e (omega arith) h (fit i h))
 
     -- what is done after the scan
-    abbrev rest : Bool → List Sent
-    rest t = pick t (operated j 1 a 0 ++ fills j a v) (looks j a l v)
-
-    abbrev begins : Bool → List Operation
-    begins t = pick t (operationOf r 1 a 0 ∷ filling j a v) (looking j a l v)
-
-    decided : (t : Bool) (w : World) → rises (r .width) (map value l) v ≡ t → SameAs l w a (j .size) → Ready j image R w → Holds w a v (rest t) (begins t)
-    decided true w e s g =
+    decided : (t : Decision) (w : World) → decisionOf (r .width) (map value l) v ≡ t → SameAs l w a (j .size) → Ready j image R w → Holds w a v (carries j a l v t) (carrying j a l v t)
+    decided NoErase w e s g = looked a l v w (ln ∙ sym lv) (λ i h. s i (omega arith)) g m (clear-cells w s e)
+    decided SectorErase w e s g =
         let L = operated j 1 a 0 in
         let o = operationOf r 1 a 0 ∷ [] in
         let q = erased a (getD v 0 0) w (let z : a + 0 ≡ a = omega arith in rw z at (m 0 (omega arith))) aligned room g in
@@ -332,22 +329,21 @@ module _ (j : Job) (image : List ℕ) (R : Right j image) where
           holds = λ i n. rw e (h .holds i n);
           starts = starts-append (j .part) w L (fills j a v) o (filling j a v) (q .starts) (h .starts);
         }
-    decided false w e s g = looked a l v w (ln ∙ sym lv) (λ i h. s i (omega arith)) g m (clear-cells w s e)
 
     sector-holds : (w : World) → SameAs l w a (j .size) → Ready j image R w → Holds w a v (sectorSent j a l v) (sectoring j a l v)
     unfolding sectorSent sectoring
     sector-holds w s g =
-        let t = rises (j .row .width) (map (valueOf (j .row .width)) l) v in
+        let t = decidedOn j l v in
         let L = scans j a (j .size) in
         let k = scanned (j .size) a w room g in
         let h = decided t (after-all w L) (rw (R .row)) (λ i n. s i n ∙ sym (ap (λ (l : List ℕ). getD l (a + i) 0) (k .cells))) (k .ready) in
-        let e = play-append (j .part) w L (rest t) in
+        let e = play-append (j .part) w L (carries j a l v t) in
         record {
           ready = rw e (h .ready);
           below = λ i n. rw e (h .below i n ∙ ap (λ (l : List ℕ). getD l i 0) (k .cells));
           above = λ i n. rw e (h .above i n ∙ ap (λ (l : List ℕ). getD l i 0) (k .cells));
           holds = λ i n. rw e (h .holds i n);
-          starts = starts-append (j .part) w L (rest t) [] (begins t) (k .starts) (h .starts);
+          starts = starts-append (j .part) w L (carries j a l v t) [] (carrying j a l v t) (k .starts) (h .starts);
         }
 
   -- ---- n sectors

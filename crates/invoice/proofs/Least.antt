@@ -44,9 +44,9 @@ use Rattle.least.specs.Job.{programs, sectorOps, sectorsOps, jobOps}
 use Rattle.least.proofs.Bound.{performAll-length}
 use Rattle.least.proofs.Theorem.{job-best}
 use Rattle.invoice.specs.Started.{cyclesIn, many, tableTime}
-use Rattle.invoice.proofs.Listed.{programming, filling, looking, sectoring, sectoringAll, operationsOf}
+use Rattle.invoice.proofs.Listed.{programming, filling, looking, carrying, sectoring, sectoringAll, operationsOf}
 use Rattle.invoice.proofs.Starts.{Starts}
-use Rattle.invoice.proofs.Bits.{rises-is}
+use Rattle.invoice.proofs.Bits.{erasesIf, decision-is}
 use Rattle.invoice.proofs.Image.{image-held}
 
 -- ---- the chip's programs and sector erases are operations of the least time
@@ -190,9 +190,9 @@ module _ (j : Job) where
   module _ (some : 0 < j .size) where
     sector-is : (s : ℕ) (l v : List ℕ) → fitAll W v ≡ true → map (opOf Z) (sectoring j (s * Z) l v) ≡ sectorOps W Z s l v
     unfolding sectoring sectorOps lastWrite
-    sector-is s l v f = rw (rises-is W l v f) (by (ltb 0 (rising W l v)))
+    sector-is s l v f = rw (decision-is W l v f) (by (ltb 0 (rising W l v)))
       where
-        by : (b : Bool) → map (opOf Z) (pick b (operationOf (rowOf (j .part)) 1 (s * Z) 0 ∷ filling j (s * Z) v) (looking j (s * Z) l v))
+        by : (b : Bool) → map (opOf Z) (carrying j (s * Z) l v (erasesIf b))
             ≡ pick b (Erase s ∷ programs W (s * Z) (blanks W v) v) (programs W (s * Z) l v)
         by true = ap₂ {A = ℕ} {B = List Op} {C = List Op} (λ n ops. Erase n ∷ ops) (mul-div-cancel s some) (fills-are (s * Z) v f)
         by false = looks-are (s * Z) l v f

@@ -7,7 +7,6 @@ use native.Mathlib.Omega.{arith}
 use borrow.Author.Tests.{eq-eqb}
 use lib.Dec.{ltb}
 use lib.ListN.{length, take, drop}
-use Rattle.parts.specs.Pick.{pick}
 use Rattle.parts.specs.Table.{rowOf}
 use Rattle.parts.proofs.Ranges.{sector-some}
 use Rattle.chip.specs.declared.device.Operation.{Operation}
@@ -24,11 +23,10 @@ use Rattle.job.specs.Sent.{sentOf}
 use Rattle.job.specs.Formulas.{tallyOf, N}
 use Rattle.job.specs.Bill.{jobOf, billOf, playedAll, Loaded, loadOf}
 use Rattle.job.proofs.Counts.{job-fair}
-use Rattle.driver.specs.Talk.{operationOf}
 use Rattle.least.specs.LeastTime.{rising}
 use Rattle.invoice.specs.Started.{cyclesIn, many}
-use Rattle.invoice.proofs.Listed.{filling, looking, sectoring, sectoringAll, operationsOf}
-use Rattle.invoice.proofs.Bits.{rises-is}
+use Rattle.invoice.proofs.Listed.{carrying, sectoring, sectoringAll, operationsOf}
+use Rattle.invoice.proofs.Bits.{erasesIf, decision-is}
 use Rattle.invoice.proofs.Starts.{world-plays}
 use Rattle.invoice.proofs.Image.{image-held}
 use Rattle.invoice.proofs.Least.{fit-take, fit-drop, held}
@@ -37,7 +35,7 @@ use Rattle.invoice.proofs.Billed.{ok, tally-is}
 -- ---- the job's operations, a sector's decision by how many of its cells have a bit that must rise: that is quick to compute
 module _ (j : Job) where
   unfoldable pub deciding : ℕ → List ℕ → List ℕ → List Operation
-  deciding a l v = pick (ltb 0 (rising (j .row .width) l v)) (operationOf (rowOf (j .part)) 1 a 0 ∷ filling j a v) (looking j a l v)
+  deciding a l v = carrying j a l v (erasesIf (ltb 0 (rising (j .row .width) l v)))
 
   unfoldable pub decidingAll : ℕ → ℕ → List ℕ → List ℕ → List Operation
   decidingAll a zero l v = []
@@ -49,7 +47,7 @@ module _ (j : Job) where
   decides (suc n) a l v f =
       let S = j .size in
       let W = j .row .width in
-      rw (rises-is W (take S l) (take S v) (fit-take W S v f))
+      rw (decision-is W (take S l) (take S v) (fit-take W S v f))
       (ap (λ (os : List Operation). deciding a (take S l) (take S v) ++ os) (decides n (a + S) (drop S l) (drop S v) (fit-drop W S v f)))
 
 -- the counts that e erases and q programs come to

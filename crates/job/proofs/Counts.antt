@@ -23,10 +23,11 @@ use Rattle.job.specs.declared.loader.Job.{Job}
 use Rattle.job.specs.declared.loader.Purpose.{Purpose}
 use Rattle.job.specs.declared.loader.Purpose.the-variants.{Scan, Lead, Begin, Poll, Confirm}
 use Rattle.job.specs.declared.run.Tally.{Tally}
-use Rattle.job.specs.Search.{rises}
+use Rattle.job.specs.declared.search.Decision.{Decision}
+use Rattle.job.specs.declared.search.Decision.the-variants.{NoErase, SectorErase}
 use Rattle.job.specs.Loader.{cycle}
 use Rattle.job.specs.Run.{Sent, World, sent, tally, countedOf, begunOf, sendOf, playOf}
-use Rattle.job.specs.Sent.{operated, scanRead, scans, fills, looks, sectorSent, sectorsSent, sentOf}
+use Rattle.job.specs.Sent.{operated, scanRead, scans, fills, looks, sectorSent, sectorsSent, sentOf, carries, decidedOn}
 use Rattle.job.specs.Formulas.{plus, noTally, tallyOf, N, Fair, marksOf, unlikeOf}
 use Rattle.job.proofs.Right.{Right}
 
@@ -224,13 +225,11 @@ module _ (j : Job) where
   sector-fair : (a : ℕ) (l v : List ℕ) → length l ≡ j .size → length v ≡ j .size → Fairly (sectorSent j a l v) (j .size + j .size) 1 (j .size)
   unfolding sectorSent
   sector-fair a l v hl hv =
-      let r = rises (j .row .width) (map (valueOf (j .row .width)) l) v in
-      joined (scans j a (j .size)) (pick r (operated j 1 a 0 ++ fills j a v) (looks j a l v)) (j .size) 0 0 (j .size) 1 (j .size)
-      (scans-fair a (j .size))
-      (split (λ (L : List Sent). Fairly L (j .size) 1 (j .size)) r (operated j 1 a 0 ++ fills j a v) (looks j a l v)
-      (λ _. joined (operated j 1 a 0) (fills j a v) (j .size) 1 0 0 0 (length v) (erase-fair a 0) (fills-fair a v) (omega arith) (le-refl _) (omega arith))
-      (λ _. wider (looks j a l v) (length l) 0 (length l) (j .size) 1 (j .size) (looks-fair a l v (hl ∙ sym hv)) hl zero-le (omega arith)))
-      refl (le-refl _) (omega arith)
+      joined (scans j a (j .size)) (carries j a l v (decidedOn j l v)) (j .size) 0 0 (j .size) 1 (j .size) (scans-fair a (j .size)) (by (decidedOn j l v)) refl (le-refl _) (omega arith)
+    where
+      by : (t : Decision) → Fairly (carries j a l v t) (j .size) 1 (j .size)
+      by NoErase = wider (looks j a l v) (length l) 0 (length l) (j .size) 1 (j .size) (looks-fair a l v (hl ∙ sym hv)) hl zero-le (omega arith)
+      by SectorErase = joined (operated j 1 a 0) (fills j a v) (j .size) 1 0 0 0 (length v) (erase-fair a 0) (fills-fair a v) (omega arith) (le-refl _) (omega arith)
 
   -- n sectors
   sectors-fair : (n a : ℕ) (l v : List ℕ) → n * j .size ≤ length l → n * j .size ≤ length v
@@ -282,18 +281,18 @@ module _ (j : Job) where
       let b = eqb (valueOf (j .row .width) o) x in
       rw (tally-append (pick b [] (operated j 0 a x)) (looks j (a + 1) l v), burn-programs b a x, looks-programs (a + 1) l v, zero-add)
 
-  -- a sector
-  pub sector-tally : (a : ℕ) (l v : List ℕ) → tallyOf (sectorSent j a l v)
-      ≡ pick (rises (j .row .width) (map (valueOf (j .row .width)) l) v)
-      (plus (tally 1 0 (N j 1) (j .size) 1 (N j 1 * j .p)) (tallyOf (fills j a v)))
-      (plus (tally 0 0 0 (j .size) 0 0) (tallyOf (looks j a l v)))
+  -- a sector, by its decision
+  abbrev pub sectorTally : ℕ → List ℕ → List ℕ → Decision → Tally
+  sectorTally a l v NoErase = plus (tally 0 0 0 (j .size) 0 0) (tallyOf (looks j a l v))
+  sectorTally a l v SectorErase = plus (tally 1 0 (N j 1) (j .size) 1 (N j 1 * j .p)) (tallyOf (fills j a v))
+
+  pub sector-tally : (a : ℕ) (l v : List ℕ) → tallyOf (sectorSent j a l v) ≡ sectorTally a l v (decidedOn j l v)
   unfolding sectorSent
-  sector-tally a l v = by (rises (j .row .width) (map (valueOf (j .row .width)) l) v)
+  sector-tally a l v = by (decidedOn j l v)
     where
-      by : (r : Bool) → tallyOf (scans j a (j .size) ++ pick r (operated j 1 a 0 ++ fills j a v) (looks j a l v))
-          ≡ pick r (plus (tally 1 0 (N j 1) (j .size) 1 (N j 1 * j .p)) (tallyOf (fills j a v))) (plus (tally 0 0 0 (j .size) 0 0) (tallyOf (looks j a l v)))
-      by true = simp (tally-append, scans-tally, erase-tally, zero-add)
-      by false = simp (tally-append, scans-tally)
+      by : (t : Decision) → tallyOf (scans j a (j .size) ++ carries j a l v t) ≡ sectorTally a l v t
+      by NoErase = simp (tally-append, scans-tally)
+      by SectorErase = simp (tally-append, scans-tally, erase-tally, zero-add)
 
 -- ---- the table
 -- no known part takes more than 28 µs for a program and 36,000 for a sector erase

@@ -30,10 +30,12 @@ use Rattle.job.specs.declared.loader.Stage.{Stage}
 use Rattle.job.specs.declared.loader.Stage.the-variants.{Scanning, Erasing, Filling, Looking, Burning}
 use Rattle.job.specs.declared.loader.Purpose.the-variants.{Scan}
 use Rattle.job.specs.declared.loader.Turn.the-variants.{Play, Stop}
-use Rattle.job.specs.Search.{rises, leadingOf}
-use Rattle.job.specs.Loader.{turned, loader, nobody, cycle, placeOf, readsCell, firstOf, lookOf, beginOf, nextMark, fillOf, burnOf, scannedOf, decideOf, afterwards, seenOf, stageOf, drivenOf, turnOf}
+use Rattle.job.specs.declared.search.Decision.{Decision}
+use Rattle.job.specs.declared.search.Decision.the-variants.{NoErase, SectorErase}
+use Rattle.job.specs.Search.{leadingOf}
+use Rattle.job.specs.Loader.{turned, loader, nobody, cycle, placeOf, readsCell, firstOf, lookOf, beginOf, nextMark, fillOf, burnOf, scannedOf, carryOut, decideOf, afterwards, seenOf, stageOf, drivenOf, turnOf}
 use Rattle.job.specs.Run.{Sent, World, sendOf}
-use Rattle.job.specs.Sent.{operated, scanRead, scans, fills, looks, sectorSent, sectorsSent}
+use Rattle.job.specs.Sent.{operated, scanRead, scans, fills, looks, carries, decidedOn, sectorSent, sectorsSent}
 use Rattle.job.proofs.Within.{sector-in}
 use Rattle.job.proofs.Right.{Right, program-starts, erase-starts, fit-at}
 use Rattle.job.proofs.Turns.{part-length}
@@ -323,14 +325,22 @@ module _ (j : Job) (image : List ℕ) (R : Right j image) where
     looking (suc m) i = look-more m i (looking m (i + 1))
 
     -- ---- the decision
-    -- with no rising bit, every cell only has to lose bits
-    clear-all : (cells : List ℕ) → length cells ≡ r .cells → rises (j .row .width) (map value (take (j .size) (drop a cells))) (take (j .size) (drop base image)) ≡ false → Clears 0 cells
+    -- the sector's image
+    abbrev v : List ℕ
+    v = take (j .size) (drop base image)
+
+    -- the cells of the sector
+    abbrev held : List ℕ → List ℕ
+    held cells = take (j .size) (drop a cells)
+
+    -- unerased, every cell only has to lose bits
+    clear-all : (cells : List ℕ) → length cells ≡ r .cells → decidedOn j (held cells) v ≡ NoErase → Clears 0 cells
     clear-all cells whole e = λ k le lt.
-        let ln : length (take (j .size) (drop a cells)) ≡ j .size = part-length cells a (j .size) (omega (arith, R .range)) in
-        let lm : length (take (j .size) (drop base image)) ≡ j .size = part-length image base (j .size) (omega (arith, R .count)) in
-        let o : getD (take (j .size) (drop a cells)) k 0 ≡ getD cells (a + k) 0 = getD-take (j .size) (drop a cells) k 0 lt ∙ getD-drop a cells k 0 in
-        let x : getD (take (j .size) (drop base image)) k 0 ≡ imageAt k = getD-take (j .size) (drop base image) k 0 lt ∙ getD-drop base image k 0 in
-        rw (o, x) at (cleared (j .row .width) (take (j .size) (drop a cells)) (take (j .size) (drop base image)) k e (rw ln lt) (rw lm lt) (rw x (fits-at k lt)))
+        let ln : length (held cells) ≡ j .size = part-length cells a (j .size) (omega (arith, R .range)) in
+        let lm : length v ≡ j .size = part-length image base (j .size) (omega (arith, R .count)) in
+        let o : getD (held cells) k 0 ≡ getD cells (a + k) 0 = getD-take (j .size) (drop a cells) k 0 lt ∙ getD-drop a cells k 0 in
+        let x : getD v k 0 ≡ imageAt k = getD-take (j .size) (drop base image) k 0 lt ∙ getD-drop base image k 0 in
+        rw (o, x) at (cleared (j .row .width) (held cells) v k e (rw ln lt) (rw lm lt) (rw x (fits-at k lt)))
 
     module _ (multiple : base % j .size ≡ 0) where
       aligned : a % sectorSize (r .width) ≡ 0
@@ -338,7 +348,7 @@ module _ (j : Job) (image : List ℕ) (R : Right j image) where
 
       -- an erase, then the sector is filled
       erases : (seen : List ℕ) (w : World) (D : List ℕ) (L : List Sent) → length seen ≡ 4096 → 0 < j .size → Ready w → drop (a + j .size) (w .cells) ≡ D → Next D L
-          → Rest j image (turned seen (beginOf j Erasing base 0 1 0)) w (operated j 1 a 0 ++ (fills j a (take (j .size) (drop base image)) ++ L))
+          → Rest j image (turned seen (beginOf j Erasing base 0 1 0)) w (operated j 1 a 0 ++ (fills j a v ++ L))
       unfolding idle
       erases seen w D L n some g d h =
           let q : a ≡ placeOf j base 0 = omega arith in
@@ -359,36 +369,29 @@ module _ (j : Job) (image : List ℕ) (R : Right j image) where
           (ap (drop (a + j .size)) c ∙ (rw (R .size) (erase-drop r a aligned (w .cells) room) ∙ d)) h))
 
       -- the decision, from the values seen: erase and fill, or look again
-      deciding : (cells D : List ℕ) (L : List Sent) → 0 < j .size → drop (a + j .size) cells ≡ D → Next D L
-          → Decides cells
-          (pick (rises (j .row .width) (map value (take (j .size) (drop a cells))) (take (j .size) (drop base image))) (operated j 1 a 0 ++ fills j a (take (j .size) (drop base image)))
-          (looks j a (take (j .size) (drop a cells)) (take (j .size) (drop base image))) ++ L)
+      deciding : (cells D : List ℕ) (L : List Sent) → 0 < j .size → drop (a + j .size) cells ≡ D → Next D L → Decides cells (carries j a (held cells) v (decidedOn j (held cells) v) ++ L)
       unfolding decideOf
-      deciding cells D L some d h seen w g c s = rw (s .1) (by (rises (j .row .width) (map value (take (j .size) (drop a cells))) (take (j .size) (drop base image))) refl)
+      deciding cells D L some d h seen w g c s = rw (s .1) (by (decidedOn j (held cells) v) refl)
         where
           d′ : drop (a + j .size) (w .cells) ≡ D
           d′ = ap (drop (a + j .size)) c ∙ d
 
-          by : (t : Bool) → rises (j .row .width) (map value (take (j .size) (drop a cells))) (take (j .size) (drop base image)) ≡ t
-              → Rest j image (turned seen (pick t (beginOf j Erasing base 0 1 0) (lookOf j base 0))) w
-              (pick t (operated j 1 a 0 ++ fills j a (take (j .size) (drop base image))) (looks j a (take (j .size) (drop a cells)) (take (j .size) (drop base image))) ++ L)
-          by true t =
-              rest-is j image _ _ w _ (operated j 1 a 0 ++ (fills j a (take (j .size) (drop base image)) ++ L)) refl (append-assoc (operated j 1 a 0) (fills j a (take (j .size) (drop base image))) L)
-              (erases seen w D L (s .0) some g d′ h)
-          by false t =
+          by : (t : Decision) → decidedOn j (held cells) v ≡ t → Rest j image (turned seen (carryOut j base t)) w (carries j a (held cells) v t ++ L)
+          by NoErase t =
               let z : a + 0 ≡ a = omega arith in
               let y : base + 0 ≡ base = omega arith in
               rest-is j image _ _ w _ _ refl (rw (← c) (sym (rw (z, y))))
               (looking (j .size) 0 seen w D L (omega arith) (s .0) g (clear-all (w .cells) (g .whole) (rw (← c) at t)) d′ h)
+          by SectorErase t =
+              rest-is j image _ _ w _ (operated j 1 a 0 ++ (fills j a v ++ L)) refl (append-assoc (operated j 1 a 0) (fills j a v) L) (erases seen w D L (s .0) some g d′ h)
 
       -- the sector
       pub sector : (seen : List ℕ) (w : World) (D : List ℕ) (L : List Sent) → length seen ≡ 4096 → 0 < j .size → j .size ≤ 4096 → Ready w → drop (a + j .size) (w .cells) ≡ D → Next D L
-          → Rest j image (turned seen (firstOf j base)) w (sectorSent j a (take (j .size) (drop a (w .cells))) (take (j .size) (drop base image)) ++ L)
+          → Rest j image (turned seen (firstOf j base)) w (sectorSent j a (held (w .cells)) v ++ L)
       unfolding firstOf sectorSent
       sector seen w D L n some most g d h =
-          let l = take (j .size) (drop a (w .cells)) in
-          let v = take (j .size) (drop base image) in
-          let X = pick (rises (j .row .width) (map value l) v) (operated j 1 a 0 ++ fills j a v) (looks j a l v) in
+          let l = held (w .cells) in
+          let X = carries j a l v (decidedOn j l v) in
           let z : a + 0 ≡ a = omega arith in
           let m : suc (j .size - 1) ≡ j .size = omega arith in
           rest-is j image _ (turned seen (readsCell j Scanning base 0)) w _ (scans j (a + 0) (suc (j .size - 1)) ++ (X ++ L))

@@ -23,7 +23,9 @@ use Rattle.job.specs.declared.loader.Purpose.{Purpose}
 use Rattle.job.specs.declared.loader.Purpose.the-variants.{Scan, Lead, Begin, Poll, Confirm}
 use Rattle.job.specs.declared.loader.Turn.{Turn}
 use Rattle.job.specs.declared.loader.Turn.the-variants.{Play, Stop}
-use Rattle.job.specs.Search.{rises, leadingOf}
+use Rattle.job.specs.declared.search.Decision.{Decision}
+use Rattle.job.specs.declared.search.Decision.the-variants.{NoErase, SectorErase}
+use Rattle.job.specs.Search.{decisionOf, leadingOf}
 
 -- no operation is driven
 abbrev pub nobody : Driver
@@ -100,11 +102,13 @@ burnOf j image base i reply =
     (beginOf j Burning base i 0 (getD image (base + i) 0))
 
 -- ---- the decision, from the values seen
+-- what it asks for is begun: the sector's erase, or its cells are read again
+abbrev pub carryOut : Job → ℕ → Decision → Turn
+carryOut j base NoErase = lookOf j base 0
+carryOut j base SectorErase = beginOf j Erasing base 0 1 0
+
 unfoldable pub decideOf : Job → List ℕ → List ℕ → ℕ → Turn
-decideOf j image seen base =
-    pick (rises (j .row .width) (take (j .size) seen) (take (j .size) (drop base image)))
-    (beginOf j Erasing base 0 1 0)
-    (lookOf j base 0)
+decideOf j image seen base = carryOut j base (decisionOf (j .row .width) (take (j .size) seen) (take (j .size) (drop base image)))
 
 -- what follows an operation
 abbrev pub afterwards : Job → List ℕ → Stage → ℕ → ℕ → Turn

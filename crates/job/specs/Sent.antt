@@ -12,7 +12,9 @@ use Rattle.driver.specs.declared.writes.Write.{Write as Written}
 use Rattle.driver.specs.Writes.{writesOf}
 use Rattle.job.specs.declared.loader.Job.{Job}
 use Rattle.job.specs.declared.loader.Purpose.the-variants.{Scan, Lead, Begin, Poll, Confirm}
-use Rattle.job.specs.Search.{rises}
+use Rattle.job.specs.declared.search.Decision.{Decision}
+use Rattle.job.specs.declared.search.Decision.the-variants.{NoErase, SectorErase}
+use Rattle.job.specs.Search.{decisionOf}
 use Rattle.job.specs.Loader.{cycle}
 use Rattle.job.specs.Run.{Sent, sent}
 
@@ -49,13 +51,18 @@ looks j a [] v = []
 looks j a (o ∷ l) [] = []
 looks j a (o ∷ l) (x ∷ v) = scanRead j a ∷ (pick (eqb (valueOf (j .row .width) o) x) [] (operated j 0 a x) ++ looks j (a + 1) l v)
 
--- the sector from address a on, that holds l and is to hold v
+-- what a sector's decision asks for
+abbrev pub carries : Job → ℕ → List ℕ → List ℕ → Decision → List Sent
+carries j a l v NoErase = looks j a l v
+carries j a l v SectorErase = operated j 1 a 0 ++ fills j a v
+
+-- the decision of a sector that holds l and is to hold v, made from the values
+abbrev pub decidedOn : Job → List ℕ → List ℕ → Decision
+decidedOn j l v = decisionOf (j .row .width) (map (valueOf (j .row .width)) l) v
+
+-- the sector from address a on
 unfoldable pub sectorSent : Job → ℕ → List ℕ → List ℕ → List Sent
-sectorSent j a l v =
-    scans j a (j .size)
-    ++ pick (rises (j .row .width) (map (valueOf (j .row .width)) l) v)
-    (operated j 1 a 0 ++ fills j a v)
-    (looks j a l v)
+sectorSent j a l v = scans j a (j .size) ++ carries j a l v (decidedOn j l v)
 
 -- ---- n sectors from address a on, ascending
 unfoldable pub sectorsSent : Job → ℕ → ℕ → List ℕ → List ℕ → List Sent

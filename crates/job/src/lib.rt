@@ -18,3 +18,5 @@ pub use loader::Turn;
 pub use run::Held;
 pub use run::Last;
 pub use run::Tally;
+pub use search::Decision;
+pub use search::Rise;

@@ -1,6 +1,7 @@
 // The loader: a machine by value over replies. It never sees the cells: what it decides, it decides from what was read.
+use crate::search::Decision;
+use crate::search::decision_of;
 use crate::search::leading;
-use crate::search::must_rise;
 use chip::Action;
 use chip::Cycle;
 use driver::Driver;
@@ -15,7 +16,7 @@ ghost use lib.Dec.{eqb};
 ghost use mathlib.Core.Bool.{true};
 ghost use Rattle.parts.specs.Pick.{pick};
 ghost use Rattle.driver.specs.Machine.{inRange, stepOf};
-ghost use Rattle.job.specs.Loader.{afterwards, beginOf, burnOf, decideOf, drivenOf, fillOf, firstOf, firstStep, goesOn, lookOf, nobody, polling, purposeOf, readsCell, scannedOf, seenOf, stageOf, turnOf, within};
+ghost use Rattle.job.specs.Loader.{afterwards, beginOf, burnOf, carryOut, decideOf, drivenOf, fillOf, firstOf, firstStep, goesOn, lookOf, nobody, polling, purposeOf, readsCell, scannedOf, seenOf, stageOf, turnOf, within};
 ghost use Rattle.job.specs.Kept.{Kept};
 
 // A job that was not refused: its part and row, the first address, the number of image values, WP# and p.
@@ -207,6 +208,18 @@ impl Job {
         self.begin(Stage::Burning, base, at, 0, data)
     }
 
+    // What a decision asks for is begun: the sector's erase, or its cells are read again.
+    fn carry_out(self, decision: Decision, base: u32) -> Turn
+        requires { ⌜ self .first + self .count ≤ 4194304 ⌝ }
+        requires { ⌜ base + self .size ≤ self .count ⌝ }
+        ensures { λ r. ⌜ r ≡ carryOut self base decision ⌝ }
+    {
+        match decision {
+            Decision::NoErase => self.look(base, 0),
+            Decision::SectorErase => self.begin(Stage::Erasing, base, 0, 1, 0),
+        }
+    }
+
     // The sector's decision, from the values seen.
     fn decide(self, image: &[u16], seen: &[u16], base: u32) -> Turn
         requires { ⌜ Kept self (length (now image)) ⌝ }
@@ -217,10 +230,8 @@ impl Job {
         let size = self.size as usize;
         let from = base as usize;
         let end = from + size;
-        if must_rise(&seen[..size], &image[from..end], self.row.width) {
-            return self.begin(Stage::Erasing, base, 0, 1, 0);
-        }
-        self.look(base, 0)
+        let decision = decision_of(&seen[..size], &image[from..end], self.row.width);
+        self.carry_out(decision, base)
     }
 
     // What follows an operation.
