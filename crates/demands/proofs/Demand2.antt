@@ -31,8 +31,8 @@ use Rattle.chip.proofs.bus_cycle.Reads as bus-reads
 use Rattle.driver.specs.Refusals.{commandRefusal, startRefusal}
 use Rattle.driver.specs.Writes.{write, unlock, lastWrite, writeCount, writesOf, sixPlaces, commandWrites}
 use Rattle.driver.specs.declared.machine.Phase.the-variants.{Polling, Done}
-use Rattle.driver.specs.Machine.{addressOf, bitSeven, bitWanted, valueWanted, begun as started-as, startOf, moved, ended, stepOf}
-use Rattle.driver.specs.Talk.{cycle, writeCycles, operationOf, completed, shownAfter, Told, told, talk, heard}
+use Rattle.driver.specs.Machine.{addressOf, confirmAfter, bitSeven, bitWanted, valueWanted, begun as started-as, startOf, moved, ended, stepOf}
+use Rattle.driver.specs.Talk.{cycle, writeCycles, operationCycles, operationOf, completed, shownAfter, Told, told, talk, heard}
 use Rattle.driver.proofs.Asked.{asking, begun}
 use Rattle.driver.proofs.Theorems.{writes-start, performs, gives-up, succeeds, Ended, always-ends}
 use Rattle.invoice.proofs.Starts.{started-append, reads-start, one-read-starts}
@@ -150,10 +150,10 @@ module _ (κs : Lfts 0) (a : Dens κs start-kinds.ps) (x : resT start-kinds.r κ
           → startedIn started-part (chip cells d)
           (talk started-part wp n (stepOf (startOf started-part started-command started-address started-word p .driver) read) (chip cells d) .cycles) ≡ o ∷ []
       by true t =
-          begins-once started-part started-command started-address started-word wp cells d _ (cycle 0 wp (Read at) ∷ []) N p at o
+          begins-once started-part started-command started-address started-word wp cells d _ (cycle confirmAfter wp (Read at) ∷ []) N p at o
           (ap (λ (t : Told). t .cycles)
           (performs started-part started-command started-address started-word p wp cells d accepted whole rests heeded (eqb-true _ _ t) n read (omega arith)))
-          one (one-read-starts started-part 0 wp at)
+          one (one-read-starts started-part confirmAfter wp at)
       by false t =
           begins-once started-part started-command started-address started-word wp cells d _ [] (N * 2) p at o
           (ap (λ (t : Told). t .cycles)
@@ -167,9 +167,7 @@ module _ (κs : Lfts 0) (a : Dens κs start-kinds.ps) (x : resT start-kinds.r κ
       → shownAfter (rowOf started-part) started-command started-address started-word cells ≡ valueWanted (rowOf started-part) started-command started-word
       → (n read : ℕ) → writeCount started-command + N + 1 ≤ n
       → talk started-part wp n (stepOf (x .driver) read) (chip cells d)
-      ≡ told
-      (writeCycles wp (writesOf (rowOf started-part) started-command started-address started-word)
-      ++ (replicate N (cycle p wp (Read (addressOf started-command started-address))) ++ (cycle 0 wp (Read (addressOf started-command started-address)) ∷ [])))
+      ≡ told (operationCycles (rowOf started-part) wp started-command started-address started-word p N Done)
       (chip (completed (rowOf started-part) started-command started-address started-word cells) freshDevice)
       (ended (moved (started-as started-part started-command started-address started-word p) Polling N) Done)
   driver-succeeds cells whole d rests wp heeded same n read enough =
@@ -177,5 +175,5 @@ module _ (κs : Lfts 0) (a : Dens κs start-kinds.ps) (x : resT start-kinds.r κ
 
   -- Whatever is replied (f), a dead chip's constant among it, a started driver has ended after 6 + 2N + 1 cycles, 4 + 2N + 1 for a program: `Ended` says how.
   pub driver-ends : (wp : Bool) (f : ℕ → ℕ) (read n : ℕ) → writeCount started-command + N * 2 + 1 ≤ n
-      → Ended started-part started-command p (heard wp f n (stepOf (x .driver) read))
+      → Ended started-part started-command started-address started-word p wp (heard wp f n (stepOf (x .driver) read))
   driver-ends wp f read n enough = rw promise (always-ends started-part started-command started-address started-word p accepted wp f read n enough)

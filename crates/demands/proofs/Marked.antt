@@ -23,6 +23,7 @@ use Rattle.chip.specs.Trace.{leaves, after}
 use Rattle.driver.specs.Writes.{lastWrite}
 use Rattle.job.specs.Total.{totalOf}
 use Rattle.job.specs.Refusal.{fitAll, meets, protectionRefusal, rangeRefusal, jobRefusal}
+use Rattle.driver.specs.Machine.{confirmAfter}
 use Rattle.job.specs.Bill.{jobOf, fullOf, Loaded}
 use Rattle.invoice.proofs.Listed.{filling, looking}
 use Rattle.invoice.proofs.Loads.{deciding, decidingAll, reckoned, loads}
@@ -113,7 +114,7 @@ on-every [] c = refl
 on-every (k ∷ ks) c = let b = both (computes k) (every computes ks) c in rw (on-marked k (b .0)) (on-every ks (b .1))
 
 computed : every computes cases ≡ true
-unfolding computes holdsOn ranOn cycleOn reckon reckonAll accepts acceptsAll rowOf partRefusal fitsIn sectorSize holdsb hasBlocks sectorOf blockOf protectedOf hasCommand timeOf validOperation inRange cellsOf completeOn cutOn effectOf ignored writtenOf actionRefusal cycleRefusal settledOf readOf writeOf cutOf acceptedOf lastWrite roundedUp fitAll meets protectionRefusal rangeRefusal jobRefusal totalOf fullOf filling looking deciding decidingAll
+unfolding computes holdsOn ranOn cycleOn reckon reckonAll accepts acceptsAll rowOf partRefusal fitsIn sectorSize holdsb hasBlocks sectorOf blockOf protectedOf hasCommand timeOf validOperation inRange cellsOf completeOn cutOn effectOf ignored writtenOf actionRefusal cycleRefusal settledOf readOf writeOf cutOf acceptedOf lastWrite roundedUp fitAll meets protectionRefusal rangeRefusal jobRefusal totalOf confirmAfter fullOf filling looking deciding decidingAll
 computed = refl
 
 -- Every marked case of the list holds of the definitions that the promises of bus_cycle and load cite.

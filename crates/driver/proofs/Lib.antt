@@ -4,9 +4,10 @@ pub mod Nth
 pub mod Ready
 pub mod Polls
 pub mod Steps
+pub mod Talks
+pub mod Named
 pub mod Within
 pub mod Commands
-pub mod Talks
 pub mod Shown
 pub mod Begins
 pub mod Theorems

@@ -3,3 +3,4 @@ pub mod Writes
 pub mod Machine
 pub mod Usual
 pub mod Talk
+pub mod Reads

@@ -47,12 +47,16 @@ valueWanted r command x = pick (eqb command 0) x (blankOf (r .width))
 abbrev pub begun : ℕ → ℕ → ℕ → ℕ → ℕ → Driver
 begun part command a x p = driver part command (addressOf command a) (dataOf command x) p Writing 0
 
--- a refused start hands back an all-zero state
+-- no driver: the all-zero state
+abbrev pub noDriver : Driver
+noDriver = driver 0 0 0 0 0 Writing 0
+
+-- a refused start hands back the all-zero state
 unfoldable pub startOf : ℕ → ℕ → ℕ → ℕ → ℕ → Started
 startOf part command a x p =
     pick (eqb (startRefusal part command a x p) 0)
     (record { answer = 0; driver = begun part command a x p })
-    (record { answer = startRefusal part command a x p; driver = driver 0 0 0 0 0 Writing 0 })
+    (record { answer = startRefusal part command a x p; driver = noDriver })
 
 -- ---- the states in range
 -- it gives up after 2N polls
@@ -104,6 +108,23 @@ final Done = true
 final GaveUp = true
 final Differs = true
 
+-- the phases in which the writes are still being named, and those in which the confirming read has been
+abbrev pub writing : Phase → Bool
+writing Writing = true
+writing Polling = false
+writing Confirming = false
+writing Done = false
+writing GaveUp = false
+writing Differs = false
+
+abbrev pub confirmed : Phase → Bool
+confirmed Writing = false
+confirmed Polling = false
+confirmed Confirming = true
+confirmed Done = true
+confirmed GaveUp = false
+confirmed Differs = true
+
 -- the end, which a finished driver repeats
 abbrev pub ended : Driver → Phase → Step
 ended d f = step (ending f) (moved d f (d .count)) Nothing (d .count)
@@ -123,9 +144,13 @@ writingOf r d = step 0 (afterWrite d) (Send 0 (Write (nextWrite r d .address) (n
 abbrev pub polls : Driver → Step
 polls d = step 0 (moved d Polling (d .count + 1)) (Send (d .p) (Read (addressOf (d .command) (d .address)))) (d .count + 1)
 
--- the confirming read, at 0 µs
+-- the µs from the last poll to the confirming read
+unfoldable pub confirmAfter : ℕ
+confirmAfter = 0
+
+-- the confirming read
 abbrev pub confirms : Driver → Step
-confirms d = step 0 (moved d Confirming (d .count)) (Send 0 (Read (addressOf (d .command) (d .address)))) (d .count)
+confirms d = step 0 (moved d Confirming (d .count)) (Send confirmAfter (Read (addressOf (d .command) (d .address)))) (d .count)
 
 -- the reply to a poll shows the wanted bit 7
 unfoldable pub matches : Driver → ℕ → Bool
@@ -152,3 +177,9 @@ phaseOf r Differs d read = ended d Differs
 -- given the value last read, the next cycle or the end; 5, with the state handed back, for one out of range
 unfoldable pub stepOf : Driver → ℕ → Step
 stepOf d read = pick (inRange d) (phaseOf (rowOf (d .part)) (d .phase) d read) (step 5 d Nothing 0)
+
+-- a start and its first step at once; a refused start names nothing
+unfoldable pub startWriting : ℕ → ℕ → ℕ → ℕ → ℕ → Step
+startWriting part command a x p =
+    pick (eqb (startOf part command a x p .answer) 0) (stepOf (startOf part command a x p .driver) 0)
+    (step (startOf part command a x p .answer) (startOf part command a x p .driver) Nothing 0)

@@ -9,9 +9,12 @@ ghost use mathlib.Core.Path.{_≡_};
 ghost use Prim.Native.Nat.{_<_, _≤_};
 ghost use lib.Dec.{eqb, leb, ltb};
 ghost use Rattle.parts.specs.Table.{foundOf};
-ghost use Rattle.driver.specs.Machine.{addressOf, afterWrite, bitSeven, bitWanted, confirmingOf, confirms, countFits, dataOf, driver, inRange, matches, mostPolls, moved, pollingOf, polls, someUpTo, startOf, step, stepOf, valueWanted, writingOf};
+ghost use Rattle.driver.specs.Machine.{addressOf, afterWrite, bitSeven, bitWanted, confirmingOf, confirms, countFits, dataOf, driver, inRange, matches, mostPolls, moved, noDriver, pollingOf, polls, someUpTo, startOf, startWriting, step, stepOf, valueWanted, writingOf};
 ghost use Rattle.driver.specs.Usual.{Usual};
 ghost use Rattle.driver.specs.Writes.{writeCount};
+
+// The µs from the last poll to the confirming read.
+pub const CONFIRM_AFTER: u32 = 0;
 
 // The writes are named one by one; then polls; then the confirming read; then one of three ends.
 pub enum Phase {
@@ -119,16 +122,23 @@ fn begin(part: u32, command: u32, address: u32, data: u16, p: u32) -> Driver
     }
 }
 
-// Starts a command, 0 program, 1 sector, 2 block, 3 chip, polled every p µs: refusals 1, 10, 14, 3, 4.
-pub fn start(part: u32, command: u32, address: u32, data: u16, p: u32) -> Started
+// No driver: what a refused start hands back.
+fn no_driver() -> Driver
+    ensures { λ r. ⌜ r ≡ noDriver ⌝ }
+{
+    begin(0, 0, 0, 0, 0)
+}
+
+// Starts a command on a part that was looked up.
+fn start_on(found: Found, part: u32, command: u32, address: u32, data: u16, p: u32) -> Started
+    requires { ⌜ found ≡ foundOf part ⌝ }
     ensures { λ r. ⌜ r ≡ startOf part command address «data» p ⌝ }
 {
-    let found = parts::part_row(part);
     let answer = start_refusal(found, command, address, data, p);
     if 0 < answer {
         return Started {
             answer,
-            driver: begin(0, 0, 0, 0, 0),
+            driver: no_driver(),
         };
     }
     let a = address_of(command, address);
@@ -136,6 +146,33 @@ pub fn start(part: u32, command: u32, address: u32, data: u16, p: u32) -> Starte
     Started {
         answer: 0,
         driver: begin(part, command, a, x, p),
+    }
+}
+
+// Starts a command, 0 program, 1 sector, 2 block, 3 chip, polled every p µs: refusals 1, 10, 14, 3, 4.
+pub fn start(part: u32, command: u32, address: u32, data: u16, p: u32) -> Started
+    ensures { λ r. ⌜ r ≡ startOf part command address «data» p ⌝ }
+{
+    let found = parts::part_row(part);
+    start_on(found, part, command, address, data, p)
+}
+
+// Starts a command and names its first write at once: the same refusals.
+pub fn start_writing(part: u32, command: u32, address: u32, data: u16, p: u32) -> Step
+    ensures { λ r. ⌜ r ≡ startWriting part command address «data» p ⌝ }
+{
+    let found = parts::part_row(part);
+    let started = start_on(found, part, command, address, data, p);
+    let d = started.driver;
+    if started.answer == 0 {
+        let row = found.row;
+        return d.write_on(row);
+    }
+    Step {
+        answer: started.answer,
+        driver: d,
+        next: Next::Nothing,
+        polls: 0,
     }
 }
 
@@ -298,7 +335,7 @@ impl Driver {
         Step {
             answer: 0,
             driver: self.moved_to(Phase::Confirming, polls),
-            next: Next::Send(0, action),
+            next: Next::Send(CONFIRM_AFTER, action),
             polls,
         }
     }

@@ -27,7 +27,7 @@ use Rattle.driver.specs.declared.machine.Next.the-variants.{Nothing, Send}
 use Rattle.driver.specs.declared.machine.Step.{Step}
 use Rattle.driver.specs.Refusals.{startRefusal}
 use Rattle.driver.specs.Writes.{writesOf, writeCount}
-use Rattle.driver.specs.Machine.{addressOf, valueWanted, startOf, stepOf}
+use Rattle.driver.specs.Machine.{addressOf, confirmAfter, valueWanted, startOf, stepOf}
 use Rattle.driver.specs.Talk.{talk, writeCycles, operationOf, completed, shownAfter, shows, cycle}
 use Rattle.driver.proofs.Theorems.{succeeds, program-shows, erase-shows}
 use Rattle.job.specs.declared.loader.Job.{Job}
@@ -36,7 +36,8 @@ use Rattle.job.specs.declared.search.Decision.the-variants.{NoErase, SectorEras
 use Rattle.job.specs.Search.{decisionOf}
 use Rattle.job.specs.Run.{Sent, World, world, noneSent, playOf}
 use Rattle.job.specs.Sent.{operated, scanRead, scans, fills, looks, carries, decidedOn, sectorSent, sectorsSent, sentOf}
-use Rattle.job.proofs.Rest.{chipOf, talk-stops, talk-goes}
+use Rattle.driver.proofs.Talks.{talk-stops, talk-goes}
+use Rattle.job.proofs.Rest.{chipOf}
 use Rattle.job.proofs.Right.{Right, program-starts, erase-starts, fit-at}
 use Rattle.job.proofs.Clears.{cleared}
 use Rattle.job.proofs.Left.{program-leaves, erase-length, erase-drop, erase-at, erase-leaves}
@@ -80,7 +81,7 @@ module _ (j : Job) (image : List ℕ) (R : Right j image) where
       ∙ (ap (play (j .part) (chipOf w)) (cycles-are command few) ∙ (rw t at (talk-plays (j .part) (j .wp) n first (chipOf w))))
     where
       cycles-are : (command : ℕ) → command ≤ 1 → cyclesIn (operated j command a x)
-          ≡ writeCycles (j .wp) (writesOf r command a x) ++ (replicate (pollsOf r command (j .p)) (cycle (j .p) (j .wp) (Read (addressOf command a))) ++ (cycle 0 (j .wp) (Read (addressOf command a)) ∷ []))
+          ≡ writeCycles (j .wp) (writesOf r command a x) ++ (replicate (pollsOf r command (j .p)) (cycle (j .p) (j .wp) (Read (addressOf command a))) ++ (cycle confirmAfter (j .wp) (Read (addressOf command a)) ∷ []))
       cycles-are zero le = rw (← R .row) (operated-cycles j 0 a x le)
       cycles-are (suc zero) le = rw (← R .row) (operated-cycles j 1 a x le)
       cycles-are (suc (suc c)) le = absurd (omega arith)
@@ -116,7 +117,7 @@ module _ (j : Job) (image : List ℕ) (R : Right j image) where
         ready = record { rest = ap (λ (h : Chip). h .device) c; whole = ap length e ∙ (length-set (w .cells) a (bitAnd (at w a) x) ∙ g .whole) };
         others = λ i n. ap (λ (l : List ℕ). getD l i 0) e ∙ getD-set-other (w .cells) a i (bitAnd (at w a) x) 0 n;
         here = ap (λ (l : List ℕ). value (getD l a 0)) done ∙ (shown ∙ clears);
-        starts = starts-operated j 0 a x (omega arith) (R .row) w (m .program) (g .whole) (rw (g .rest)) (m .heeds-program);
+        starts = starts-operated j 0 a x (omega arith) (R .row) w (m .program) (g .whole) (rw (g .rest)) (m .heeds-program) c;
       }
 
   -- ---- a stretch of cells
@@ -299,7 +300,7 @@ module _ (j : Job) (image : List ℕ) (R : Right j image) where
             ∙ (List·getD-append (take a (w .cells)) _ 0 i (rw (length-take-le a (w .cells) (omega arith)) h) ∙ getD-take a (w .cells) i 0 h);
         above = λ i h. ap (λ (l : List ℕ). getD l i 0) e ∙ beyond (completed r 1 a 0 (w .cells)) (w .cells) (a + sectorSize (r .width)) i (omega (arith, R .size)) (erase-drop r a z (w .cells) s);
         blank = λ i h. ap (λ (l : List ℕ). value (getD l (a + i) 0)) e ∙ (ap value (erase-at r a z (w .cells) s i (omega (arith, R .size))) ∙ value-blank (r .width));
-        starts = starts-operated j 1 a 0 (omega arith) (R .row) w (m .erase) (g .whole) (rw (g .rest)) (m .heeds-erase);
+        starts = starts-operated j 1 a 0 (omega arith) (R .row) w (m .erase) (g .whole) (rw (g .rest)) (m .heeds-erase) c;
       }
     where
       beyond : (l k : List ℕ) (n i : ℕ) → n ≤ i → drop n l ≡ drop n k → getD l i 0 ≡ getD k i 0

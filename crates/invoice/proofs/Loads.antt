@@ -23,6 +23,7 @@ use Rattle.job.specs.Sent.{sentOf}
 use Rattle.job.specs.Formulas.{tallyOf, N}
 use Rattle.job.specs.Bill.{jobOf, billOf, playedAll, Loaded, loadOf}
 use Rattle.job.proofs.Counts.{job-fair}
+use Rattle.driver.specs.Machine.{confirmAfter}
 use Rattle.least.specs.LeastTime.{rising}
 use Rattle.invoice.specs.Started.{cyclesIn, many}
 use Rattle.invoice.proofs.Listed.{carrying, sectoring, sectoringAll, operationsOf}
@@ -52,7 +53,7 @@ module _ (j : Job) where
 
 -- the counts that e erases and q programs come to
 abbrev pub counted : Job → ℕ → ℕ → Tally
-counted j e q = tally e q (e * N j 1 + q * N j 0) (j .count + j .count - e * j .size) (e + q) ((e * N j 1 + q * N j 0) * j .p)
+counted j e q = tally e q (e * N j 1 + q * N j 0) (j .count + j .count - e * j .size) (e + q) ((e * N j 1 + q * N j 0) * j .p + (e + q) * confirmAfter)
 
 -- the cells after operations, and the bill of them
 abbrev pub billedAt : Job → List Operation → List ℕ → Loaded
@@ -90,11 +91,11 @@ module _ (part : ℕ) (cells : List ℕ) (first : ℕ) (image : List ℕ) (wp : 
       let f = job-fair j image (w .right) cells (w .whole) in
       rw (← s .erases, ← s .programs) (same (tallyOf (sentOf j image cells)) (f .polls) (f .spent) (f .confirms) (f .scans))
     where
-      same : (t : Tally) → t .polls ≡ t .erases * N j 1 + t .programs * N j 0 → t .time ≡ t .polls * j .p → t .confirms ≡ t .erases + t .programs
+      same : (t : Tally) → t .polls ≡ t .erases * N j 1 + t .programs * N j 0 → t .time ≡ t .polls * j .p + t .confirms * confirmAfter → t .confirms ≡ t .erases + t .programs
           → t .scans + t .erases * j .size ≡ j .count + j .count → t ≡ counted j (t .erases) (t .programs)
       same t a b c d =
           let e : t .scans ≡ j .count + j .count - t .erases * j .size = omega arith in
-          rw (← e, ← a, ← b, ← c)
+          rw (← e, ← a, ← c, ← b)
 
   by-operations : loadOf part cells first image wp p ≡ reckonedBy j cells os
   unfolding loadOf

@@ -3,7 +3,7 @@ use Prim.Native.Nat.{ℕ, zero, suc, zero-le, _+_, _*_, _/_, _≤_}
 use mathlib.Core.Path.{_≡_, refl, sym, ap, _∙_}
 use mathlib.Core.Bool.{Bool, true, false}
 use mathlib.Core.List.{List, [], _∷_, _++_, map}
-use native.Mathlib.Nat.{add-zero, zero-add, add-assoc, zero-mul, mul-add, le-refl, le-add-right as up}
+use native.Mathlib.Nat.{add-zero, zero-add, add-assoc, zero-mul, mul-add, le-refl, le-add-right as up, mul-assoc}
 use native.Mathlib.Nat.{mul-le-mul, mul-le-mul-left, mul-le-mul-right, le-mul-of-pos-right, div-add-mod', div-mul-le-self}
 use native.Mathlib.Omega.{arith}
 use borrow.Author.Tests.{leb-true}
@@ -19,16 +19,17 @@ use Rattle.parts.proofs.Sound.{known, cells-most}
 use Rattle.parts.proofs.Rounding.{least}
 use Rattle.chip.specs.declared.cycle.Action.{Action}
 use Rattle.driver.specs.Writes.{writesOf}
+use Rattle.driver.specs.Machine.{confirmAfter}
+use Rattle.driver.specs.Talk.{cycle}
 use Rattle.job.specs.declared.loader.Job.{Job}
 use Rattle.job.specs.declared.loader.Purpose.{Purpose}
 use Rattle.job.specs.declared.loader.Purpose.the-variants.{Scan, Lead, Begin, Poll, Confirm}
 use Rattle.job.specs.declared.run.Tally.{Tally}
 use Rattle.job.specs.declared.search.Decision.{Decision}
 use Rattle.job.specs.declared.search.Decision.the-variants.{NoErase, SectorErase}
-use Rattle.job.specs.Loader.{cycle}
 use Rattle.job.specs.Run.{Sent, World, sent, tally, countedOf, begunOf, sendOf, playOf}
 use Rattle.job.specs.Sent.{operated, scanRead, scans, fills, looks, sectorSent, sectorsSent, sentOf, carries, decidedOn}
-use Rattle.job.specs.Formulas.{plus, noTally, tallyOf, N, Fair, marksOf, unlikeOf}
+use Rattle.job.specs.Formulas.{plus, noTally, tallyOf, N, operationTime, Fair}
 use Rattle.job.proofs.Right.{Right}
 
 -- ---- sums of counts
@@ -109,12 +110,12 @@ polls-tally (suc n) e wp a =
 
 module _ (j : Job) where
   -- one program: N polls p apart, one confirming read
-  pub program-tally : (a x : ℕ) → tallyOf (operated j 0 a x) ≡ tally 0 1 (N j 0) 0 1 (N j 0 * j .p)
+  pub program-tally : (a x : ℕ) → tallyOf (operated j 0 a x) ≡ tally 0 1 (N j 0) 0 1 (operationTime j 0)
   unfolding operated writesOf tallyOf
   program-tally a x = simp (tally-append, polls-tally, zero-add, add-zero)
 
   -- one sector erase
-  pub erase-tally : (a x : ℕ) → tallyOf (operated j 1 a x) ≡ tally 1 0 (N j 1) 0 1 (N j 1 * j .p)
+  pub erase-tally : (a x : ℕ) → tallyOf (operated j 1 a x) ≡ tally 1 0 (N j 1) 0 1 (operationTime j 1)
   unfolding operated writesOf tallyOf
   erase-tally a x = simp (tally-append, polls-tally, zero-add, add-zero)
 
@@ -158,7 +159,7 @@ module _ (j : Job) where
       rw (program-tally a x)
       record {
         polls = omega arith;
-        spent = refl;
+        spent = omega arith;
         confirms = refl;
         scans = omega arith;
         erases = zero-le;
@@ -173,7 +174,7 @@ module _ (j : Job) where
       rw (erase-tally a x)
       record {
         polls = omega arith;
-        spent = refl;
+        spent = omega arith;
         confirms = refl;
         scans = omega arith;
         erases = le-refl _;
@@ -249,50 +250,16 @@ module _ (j : Job) where
     polls-most : t .polls ≤ e * N j 1 + c * N j 0
     polls-most = omega (arith, f .polls, mul-le-mul-right (N j 1) (f .erases), mul-le-mul-right (N j 0) (f .programs))
 
-    -- the time of that many
-    pub spent-most : t .time ≤ (e * N j 1 + c * N j 0) * j .p
-    spent-most = rw (f .spent) (mul-le-mul-right (j .p) polls-most)
+    -- the time by operations, and that of so many
+    by-operation : t .time ≡ t .erases * operationTime j 1 + t .programs * operationTime j 0
+    by-operation = rw (f .spent, f .polls, f .confirms) (omega (arith, mul-assoc (t .erases) (N j 1) (j .p), mul-assoc (t .programs) (N j 0) (j .p)))
+
+    pub spent-most : t .time ≤ e * operationTime j 1 + c * operationTime j 0
+    spent-most = rw by-operation (omega (arith, mul-le-mul-right (operationTime j 1) (f .erases), mul-le-mul-right (operationTime j 0) (f .programs)))
 
     -- and the cycles
     pub cycles-most : n ≤ s + e * (N j 1 + 7) + c * (N j 0 + 5)
     cycles-most = omega (arith, f .scans, f .erases, f .programs, f .confirms, f .cycles, polls-most)
-
-  -- ---- how many programs, and a sector's counts by its decision
-  -- one program, or none
-  burn-programs : (b : Bool) (a x : ℕ) → tallyOf (pick b [] (operated j 0 a x)) .programs ≡ pick b 0 1
-  unfolding tallyOf
-  burn-programs true a x = refl
-  burn-programs false a x = rw (program-tally a x)
-
-  -- after an erase: the values that are not blank
-  pub fills-programs : (a : ℕ) (v : List ℕ) → tallyOf (fills j a v) .programs ≡ marksOf (j .row .width) v
-  unfolding fills marksOf tallyOf
-  fills-programs a [] = refl
-  fills-programs a (x ∷ v) =
-      let b = eqb x (blankOf (j .row .width)) in
-      rw (tally-append (pick b [] (operated j 0 a x)) (fills j (a + 1) v), burn-programs b a x, fills-programs (a + 1) v)
-
-  -- unerased: the cells that differ
-  pub looks-programs : (a : ℕ) (l v : List ℕ) → tallyOf (looks j a l v) .programs ≡ unlikeOf (j .row .width) l v
-  unfolding looks unlikeOf tallyOf
-  looks-programs a [] v = refl
-  looks-programs a (o ∷ l) [] = refl
-  looks-programs a (o ∷ l) (x ∷ v) =
-      let b = eqb (valueOf (j .row .width) o) x in
-      rw (tally-append (pick b [] (operated j 0 a x)) (looks j (a + 1) l v), burn-programs b a x, looks-programs (a + 1) l v, zero-add)
-
-  -- a sector, by its decision
-  abbrev pub sectorTally : ℕ → List ℕ → List ℕ → Decision → Tally
-  sectorTally a l v NoErase = plus (tally 0 0 0 (j .size) 0 0) (tallyOf (looks j a l v))
-  sectorTally a l v SectorErase = plus (tally 1 0 (N j 1) (j .size) 1 (N j 1 * j .p)) (tallyOf (fills j a v))
-
-  pub sector-tally : (a : ℕ) (l v : List ℕ) → tallyOf (sectorSent j a l v) ≡ sectorTally a l v (decidedOn j l v)
-  unfolding sectorSent
-  sector-tally a l v = by (decidedOn j l v)
-    where
-      by : (t : Decision) → tallyOf (scans j a (j .size) ++ carries j a l v t) ≡ sectorTally a l v t
-      by NoErase = simp (tally-append, scans-tally)
-      by SectorErase = simp (tally-append, scans-tally, erase-tally, zero-add)
 
 -- ---- the table
 -- no known part takes more than 28 µs for a program and 36,000 for a sector erase
@@ -328,7 +295,7 @@ module _ (j : Job) (image : List ℕ) (R : Right j image) (cells : List ℕ) (fu
   erased-most = omega (arith, mul-le-mul-right (j .size) (job-fair .erases), div-mul-le-self (j .count) (j .size))
 
   -- no more is spent than if every sector were erased and every cell programmed
-  pub time-most : tallyOf (sentOf j image cells) .time ≤ (j .count / j .size * N j 1 + j .count * N j 0) * j .p
+  pub time-most : tallyOf (sentOf j image cells) .time ≤ j .count / j .size * operationTime j 1 + j .count * operationTime j 0
   time-most = spent-most j _ _ _ _ _ job-fair
 
   -- a poll is at least 1 µs: no more polls than µs

@@ -1,7 +1,6 @@
 pub mod Turns
-pub mod Within
+pub mod InJob
 pub mod Loop
-pub mod Tags
 pub mod Rest
 pub mod Operates
 pub mod Right

@@ -16,7 +16,7 @@ use Rattle.job.specs.declared.loader.Turn.{Turn}
 use Rattle.job.specs.declared.loader.Turn.the-variants.{Play, Stop}
 use Rattle.job.specs.declared.run.Tally.{Tally}
 use Rattle.job.specs.declared.run.Held.{Held}
-use Rattle.job.specs.Loader.{Turned, turned, firstOf, turnOf}
+use Rattle.job.specs.Loader.{Turned, turned, nextSector, turnOf}
 use Rattle.job.specs.Kept.{Counts}
 use Rattle.job.specs.Run.{World, world, noneSent, countedOf, sendOf, runOf, runFrom, stopNumber, stopOf, stopFrom, ended}
 
@@ -76,7 +76,7 @@ handed P cells h n e = (ap (λ (e : End). ended (e .place .held) (e .number)) e,
 
 module _ (j : Job) (image : List ℕ) where
   -- nothing sent, the first sector's first read
-  pub starts : (k : ℕ) (t : Turn) (cells : List ℕ) (h : Held) → h ≡ noneSent → t ≡ firstOf j 0
+  pub starts : (k : ℕ) (t : Turn) (cells : List ℕ) (h : Held) → h ≡ noneSent → t ≡ nextSector j 0
       → (h .sent ≤ k) × (Counts (h .tally) (h .sent) × (endOf j image (k - h .sent) (turned (replicate 4096 0) t) (world cells h) ≡ endFrom j image cells k))
   starts k t cells h e f =
       let z : k - 0 ≡ k = omega arith in

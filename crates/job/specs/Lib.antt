@@ -5,5 +5,5 @@ pub mod Loader
 pub mod Kept
 pub mod Run
 pub mod Sent
-pub mod Bill
 pub mod Formulas
+pub mod Bill

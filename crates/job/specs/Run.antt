@@ -19,7 +19,7 @@ use Rattle.job.specs.declared.run.Tally.{Tally}
 use Rattle.job.specs.declared.run.Last.{Last}
 use Rattle.job.specs.declared.run.Held.{Held}
 use Rattle.job.specs.declared.run.Ended.{Ended}
-use Rattle.job.specs.Loader.{Turned, turned, firstOf, turnOf}
+use Rattle.job.specs.Loader.{Turned, turned, nextSector, turnOf}
 
 -- a cycle and why it is sent
 pub record Sent : Type 0 where
@@ -124,8 +124,8 @@ ended h n = record { held = h; answer = n }
 
 -- a run from the start: nothing seen, nothing sent, the first sector's first read
 abbrev pub runFrom : Job → List ℕ → List ℕ → ℕ → World
-runFrom j image cells k = runOf j image k (turned (replicate 4096 0) (firstOf j 0)) (world cells noneSent)
+runFrom j image cells k = runOf j image k (turned (replicate 4096 0) (nextSector j 0)) (world cells noneSent)
 
 -- the number with which the loader stops in such a run
 abbrev pub stopFrom : Job → List ℕ → List ℕ → ℕ → ℕ
-stopFrom j image cells k = stopOf j image k (turned (replicate 4096 0) (firstOf j 0)) (world cells noneSent)
+stopFrom j image cells k = stopOf j image k (turned (replicate 4096 0) (nextSector j 0)) (world cells noneSent)

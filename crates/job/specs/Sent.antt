@@ -10,15 +10,16 @@ use Rattle.parts.specs.Time.{pollsOf}
 use Rattle.chip.specs.declared.cycle.Action.the-variants.{Read, Write}
 use Rattle.driver.specs.declared.writes.Write.{Write as Written}
 use Rattle.driver.specs.Writes.{writesOf}
+use Rattle.driver.specs.Machine.{confirmAfter}
+use Rattle.driver.specs.Talk.{cycle}
 use Rattle.job.specs.declared.loader.Job.{Job}
 use Rattle.job.specs.declared.loader.Purpose.the-variants.{Scan, Lead, Begin, Poll, Confirm}
 use Rattle.job.specs.declared.search.Decision.{Decision}
 use Rattle.job.specs.declared.search.Decision.the-variants.{NoErase, SectorErase}
 use Rattle.job.specs.Search.{decisionOf}
-use Rattle.job.specs.Loader.{cycle}
 use Rattle.job.specs.Run.{Sent, sent}
 
--- ---- one operation: its writes at 0 µs, N polls p apart, and the confirming read at 0 µs
+-- ---- one operation: its writes at 0 µs, N polls p apart, and the confirming read
 -- the writes of a command; the last one begins it
 abbrev pub writesSent : Bool → ℕ → List Written → List Sent
 writesSent wp command [] = []
@@ -29,7 +30,7 @@ unfoldable pub operated : Job → ℕ → ℕ → ℕ → List Sent
 operated j command a x =
     writesSent (j .wp) command (writesOf (j .row) command a x)
     ++ (replicate (pollsOf (j .row) command (j .p)) (sent Poll (cycle (j .p) (j .wp) (Read a)))
-    ++ (sent Confirm (cycle 0 (j .wp) (Read a)) ∷ []))
+    ++ (sent Confirm (cycle confirmAfter (j .wp) (Read a)) ∷ []))
 
 -- ---- a sector
 abbrev pub scanRead : Job → ℕ → Sent

@@ -14,6 +14,7 @@ pub use loader::Job;
 pub use loader::Loader;
 pub use loader::Purpose;
 pub use loader::Stage;
+pub use loader::Task;
 pub use loader::Turn;
 pub use run::Held;
 pub use run::Last;

@@ -183,7 +183,7 @@ pub(crate) fn run(cells: &mut [u16], job: Job, image: &[u16], k: u64) -> Ended
 {
     let mut seen = [0u16; 4096];
     let mut held = none_sent();
-    let mut turn = job.first_turn(0);
+    let mut turn = job.next_sector(0);
     while held.sent < k {
         let Turn::Play(loader, purpose, cycle) = turn else {
             let answer = stop_number(turn);

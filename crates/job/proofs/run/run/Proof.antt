@@ -22,7 +22,7 @@ loop-holds : tie.Need-loop-holds Inv-loop μ-loop
 loop-holds c =
     let g = c .before .before .before .before .args in
     let n = c .before .none-sent in
-    let t = c .first-turn in
+    let t = c .next-sector in
     let w = starts (g .job) (g .image .now) (g .k) (t .result) (g .cells .now) (n .result) (n .ensures) (t .ensures) in
     (w .0, (w .1 .0, (refl, w .1 .1)))
 
