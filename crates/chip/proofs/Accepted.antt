@@ -19,19 +19,21 @@ use Rattle.parts.proofs.Refused.{zero-left, none-first}
 use Rattle.chip.specs.declared.device.Mode.{Mode}
 use Rattle.chip.specs.declared.device.Mode.the-variants.{ReadMode, Identification}
 use Rattle.chip.specs.declared.device.Operation.{Operation}
+use Rattle.chip.specs.declared.device.Core.{Core}
 use Rattle.chip.specs.declared.device.Device.{Device}
 use Rattle.chip.specs.declared.cycle.Action.{Action}
 use Rattle.chip.specs.declared.cycle.Action.the-variants.{Read, Write}
-use Rattle.chip.specs.Device.{busy, reads, validOperation, inRange}
+use Rattle.chip.specs.Device.{device, busy, reads, validOperation, coreInRange, stageInRange, deviceInRange}
 use Rattle.chip.specs.Operation.{cellsOf}
 use Rattle.chip.specs.Cycle.{actionRefusal, cycleRefusal}
 use Rattle.chip.specs.Sized.{Sized, Runs}
+use Rattle.chip.proofs.Bits.{pick-same}
 
 -- ---- an accepted cycle
 pub record Accepted (part n : ℕ) (d : Device) (a : Action) : Type 0 where
   pub known : partRefusal part ≡ 0
   pub whole : n ≡ rowOf part .cells
-  pub state : inRange (rowOf part) d ≡ true
+  pub state : deviceInRange (rowOf part) d ≡ true
   pub reach : actionRefusal (rowOf part) a ≡ 0
 
 pub accepted : (part n : ℕ) (d : Device) (a : Action) → cycleRefusal part n d a ≡ 0 → Accepted part n d a
@@ -54,44 +56,57 @@ pub write-there : (r : Row) (a x : ℕ) → actionRefusal r (Write a x) ≡ 0 �
 unfolding actionRefusal
 write-there r a x e = let w = zero-left _ _ 2 e in (ltb-true _ _ (w .0), zero-left _ 0 3 (w .1) .0)
 
--- ---- a state in range with an operation pending
-pub record Valid (r : Row) (d : Device) : Type 0 where
-  pub command : hasCommand r (d .running .kind) ≡ true
-  pub time : d .running .left ≤ timeOf r (d .running .kind)
-  pub there : d .running .address < r .cells
-  pub fits : fitsIn (r .width) (d .running .«data») ≡ true
-  pub stage : d .stage ≡ 0
-  pub mode : d .mode ≡ ReadMode
+-- ---- a core in range with an operation pending
+pub record Valid (r : Row) (k : Core) : Type 0 where
+  pub command : hasCommand r (k .running .kind) ≡ true
+  pub time : k .running .left ≤ timeOf r (k .running .kind)
+  pub there : k .running .address < r .cells
+  pub fits : fitsIn (r .width) (k .running .«data») ≡ true
+  pub mode : k .mode ≡ ReadMode
 
 pub read-mode : (m : Mode) → reads m ≡ true → m ≡ ReadMode
 read-mode ReadMode e = refl
 read-mode Identification e = apart e
 
-pub pending : (r : Row) (d : Device) → inRange r d ≡ true → busy d ≡ true → Valid r d
-unfolding inRange validOperation
-pending r d e b =
-    let rest = pick (ltb 0 (d .stage)) false (pick (reads (d .mode)) (validOperation r (d .running)) false) in
-    let f = unless _ _ (given (busy d) rest b (unless (ltb 6 (d .stage)) (pick (busy d) rest true) e .1)) in
-    let g = both _ _ (f .1) in
+pub pending : (r : Row) (k : Core) → coreInRange r k ≡ true → busy k ≡ true → Valid r k
+unfolding coreInRange validOperation
+pending r k e b =
+    let g = both _ _ (given (busy k) (pick (reads (k .mode)) (validOperation r (k .running)) false) b e) in
     let h = both _ _ (g .1) in
     let i = unless _ _ (h .1) in
     let j = both _ _ (i .1) in
-    record {
-      command = h .0;
-      time = ltb-false _ _ (i .0);
-      there = ltb-true _ _ (j .0);
-      fits = j .1;
-      stage = zero (ltb-false _ _ (f .0));
-      mode = read-mode (d .mode) (g .0);
-    }
-  where
-    zero : d .stage ≤ 0 → d .stage ≡ 0
-    zero h = omega arith
+    record { command = h .0; time = ltb-false _ _ (i .0); there = ltb-true _ _ (j .0); fits = j .1; mode = read-mode (k .mode) (g .0) }
 
-pub valid-range : (r : Row) (d : Device) → Valid r d → inRange r d ≡ true
-unfolding inRange validOperation
-valid-range r d v =
-    simp (v .stage, v .mode, v .command, le-ltb _ _ (v .time), lt-ltb _ _ (v .there), v .fits) (split (λ (b : Bool). b ≡ true) (busy d) true true (λ _. refl) (λ _. refl))
+pub valid-range : (r : Row) (k : Core) → Valid r k → coreInRange r k ≡ true
+unfolding coreInRange validOperation
+valid-range r k v = simp (v .mode, v .command, le-ltb _ _ (v .time), lt-ltb _ _ (v .there), v .fits, pick-same)
+
+-- at rest any core is in range
+pub rest-range : (r : Row) (k : Core) → busy k ≡ false → coreInRange r k ≡ true
+unfolding coreInRange
+rest-range r k b = rw b
+
+-- ---- a device in range: its stage, and its core
+pub in-range : (r : Row) (k : Core) (s : ℕ) → stageInRange k s ≡ true → coreInRange r k ≡ true → deviceInRange r (device k s) ≡ true
+unfolding deviceInRange
+in-range r k s i j = rw (i, j)
+
+pub ranges : (r : Row) (d : Device) → deviceInRange r d ≡ true → (stageInRange (d .core) (d .stage) ≡ true) × (coreInRange r (d .core) ≡ true)
+unfolding deviceInRange
+ranges r d e = both (stageInRange (d .core) (d .stage)) (coreInRange r (d .core)) e
+
+-- no sequence begun is in range beside any core, and a stage at rest within the seven
+pub stage-none : (k : Core) → stageInRange k 0 ≡ true
+unfolding stageInRange
+stage-none k = pick-same (busy k) true
+
+pub stage-rests : (k : Core) (s : ℕ) → busy k ≡ false → s ≤ 6 → stageInRange k s ≡ true
+unfolding stageInRange
+stage-rests k s b h = simp (b, lt-ltb s 7 (omega arith))
+
+pub stage-busy : (k : Core) (s : ℕ) → stageInRange k s ≡ true → busy k ≡ true → s ≡ 0
+unfolding stageInRange
+stage-busy k s i b = eqb-true s 0 (rw b at i)
 
 -- ---- a known part
 pub sized : (n : ℕ) → partRefusal n ≡ 0 → Sized (rowOf n)
@@ -109,6 +124,6 @@ within-cells n k o c t =
     Within : Span → Type 0
     Within s = s .first + s .count ≤ rowOf n .cells
 
-pub runs : (n : ℕ) → partRefusal n ≡ 0 → (d : Device) (m : ℕ) → inRange (rowOf n) d ≡ true → m ≡ rowOf n .cells → Runs (rowOf n) d m
-runs n k d m e w =
-    record { within = λ b. let v = pending (rowOf n) d e b in omega (arith, within-cells n k (d .running) (v .command) (v .there)) }
+pub runs : (n : ℕ) → partRefusal n ≡ 0 → (k : Core) (m : ℕ) → coreInRange (rowOf n) k ≡ true → m ≡ rowOf n .cells → Runs (rowOf n) k m
+runs n known k m e w =
+    record { within = λ b. let v = pending (rowOf n) k e b in omega (arith, within-cells n known (k .running) (v .command) (v .there)) }

@@ -1,7 +1,7 @@
 -- What a cycle does, case by case: callers cite these laws and not the definition's text.
 use Prim.Native.Nat.{ℕ, _-_, _≤_, _<_}
 use mathlib.Core.Path.{_≡_, _∙_}
-use mathlib.Core.Bool.{Bool, true, false, not}
+use mathlib.Core.Bool.{Bool, true, false}
 use mathlib.Core.List.{List}
 use native.Mathlib.Omega.{arith}
 use borrow.Author.Tests.{lt-ltb, le-ltb, ne-eqb}
@@ -9,17 +9,18 @@ use lib.ListN.{length, getD}
 use Rattle.parts.specs.Width.{valueOf, fitsIn}
 use Rattle.parts.specs.Table.{rowOf, partRefusal}
 use Rattle.parts.specs.declared.table.Row.{Row}
-use Rattle.chip.specs.declared.device.Mode.the-variants.{ReadMode}
-use Rattle.chip.specs.declared.device.Operation.{Operation}
+use Rattle.chip.specs.declared.device.Core.{Core}
 use Rattle.chip.specs.declared.device.Device.{Device}
 use Rattle.chip.specs.declared.cycle.Action.{Action}
 use Rattle.chip.specs.declared.cycle.Action.the-variants.{Read, Write}
 use Rattle.chip.specs.declared.cycle.Cycle.{Cycle}
-use Rattle.chip.specs.Device.{operation, noOperation, device, freshDevice, busy, inRange}
+use Rattle.chip.specs.Device.{withLeft, toggled, withRunning, atRest, busy, device, coreInRange, coreIdle}
 use Rattle.chip.specs.Operation.{completeOn}
-use Rattle.chip.specs.Sequence.{writtenOf}
-use Rattle.chip.specs.Cycle.{chip, outcome, reply, settledOf, withLeft, status, readOf, writeOf, actionRefusal, cycleRefusal, acceptedOf, cycleOf}
-use Rattle.chip.proofs.Accepted.{Accepted, accepting, Valid, valid-range}
+use Rattle.chip.specs.Sequence.{effectOf, afterEffect, writtenOf}
+use Rattle.chip.specs.Cycle.{chip, outcome, reply, settled, settledOf, status, readOf, actionRefusal, cycleRefusal, acceptedOf, cycleOf}
+use Rattle.chip.specs.Trace.{after, effectStarts, startedBy}
+use Rattle.chip.proofs.Accepted.{Accepted, accepting, Valid, valid-range, rest-range, in-range, stage-none, stage-rests}
+use Rattle.chip.proofs.Idle.{idle-rests, idle-reads, idle-range}
 
 abbrev pub cycle : ℕ → Bool → Action → Cycle
 cycle e wp a = record { elapsed = e; wp = wp; action = a }
@@ -36,53 +37,65 @@ unfolding cycleOf
 refused-cycle part cells d c h = rw (ne-eqb (cycleRefusal part (length cells) d (c .action)) 0 h)
 
 -- ---- time
-module _ (r : Row) (cells : List ℕ) (d : Device) (e : ℕ) where
-  pub rests : busy d ≡ false → settledOf r cells d e ≡ chip cells d
+module _ (r : Row) (cells : List ℕ) (k : Core) (e : ℕ) where
+  pub rests : busy k ≡ false → settledOf r cells k e ≡ settled cells k
   unfolding settledOf
   rests b = simp b
 
-  pub runs-on : e < d .running .left → settledOf r cells d e ≡ chip cells (withLeft d (d .running .left - e))
+  runs-on : e < k .running .left → settledOf r cells k e ≡ settled cells (withRunning k (withLeft (k .running) (k .running .left - e)))
   unfolding settledOf
-  runs-on l = simp (lt-ltb 0 (d .running .left) (omega arith), lt-ltb e (d .running .left) l)
+  runs-on l = simp (lt-ltb 0 (k .running .left) (omega arith), lt-ltb e (k .running .left) l)
 
-  pub completes : 0 < d .running .left → d .running .left ≤ e → settledOf r cells d e ≡ chip (completeOn r (d .running) cells) (device (d .mode) (d .stage) noOperation)
+  completes : 0 < k .running .left → k .running .left ≤ e → settledOf r cells k e ≡ settled (completeOn r (k .running) cells) (atRest k)
   unfolding settledOf
-  completes s l = simp (lt-ltb 0 (d .running .left) s, le-ltb e (d .running .left) l)
+  completes s l = simp (lt-ltb 0 (k .running .left) s, le-ltb e (k .running .left) l)
 
 -- ---- on the lent cells of a known part
 module _ (part : ℕ) (cells : List ℕ) (known : partRefusal part ≡ 0) (whole : length cells ≡ rowOf part .cells) (a : ℕ) (there : a < rowOf part .cells) where
-  read-accepted : (d : Device) → inRange (rowOf part) d ≡ true → Accepted part (length cells) d (Read a)
+  -- a read with no sequence begun
+  read-accepted : (k : Core) (e : ℕ) (wp : Bool) → coreInRange (rowOf part) k ≡ true
+      → cycleOf part cells (device k 0) (cycle e wp (Read a)) ≡ acceptedOf (rowOf part) cells (device k 0) (cycle e wp (Read a))
   unfolding actionRefusal
-  read-accepted d i = record { known = known; whole = whole; state = i; reach = simp (lt-ltb a (rowOf part .cells) there) }
+  read-accepted k e wp i =
+      accepted-cycle part cells (device k 0) (cycle e wp (Read a))
+      (record { known = known; whole = whole; state = in-range (rowOf part) k 0 (stage-none k) i; reach = simp (lt-ltb a (rowOf part .cells) there) })
 
-  -- a read at rest in read mode shows the cell's value and leaves the device
-  pub read-rest : (d : Device) (e : ℕ) (wp : Bool) → inRange (rowOf part) d ≡ true → busy d ≡ false → d .mode ≡ ReadMode
-      → cycleOf part cells d (cycle e wp (Read a)) ≡ outcome cells (valueOf (rowOf part .width) (getD cells a 0)) d
+  -- of an idle device it shows the cell's value and leaves the device
+  pub read-idle : (k : Core) (e : ℕ) (wp : Bool) → coreIdle k ≡ true
+      → cycleOf part cells (device k 0) (cycle e wp (Read a)) ≡ outcome cells (valueOf (rowOf part .width) (getD cells a 0)) (device k 0)
   unfolding acceptedOf readOf
-  read-rest d e wp i b m = accepted-cycle part cells d (cycle e wp (Read a)) (read-accepted d i) ∙ rw (rests (rowOf part) cells d e b) (simp (b, m))
+  read-idle k e wp i =
+      read-accepted k e wp (idle-range k i (rowOf part)) ∙ rw (rests (rowOf part) cells k e (idle-rests k i)) (simp (idle-rests k i, idle-reads k i))
 
-  -- a read while an operation runs on
-  pub read-busy : (o : Operation) (e : ℕ) (wp : Bool) → Valid (rowOf part) (device ReadMode 0 o) → e < o .left
-      → cycleOf part cells (device ReadMode 0 o) (cycle e wp (Read a))
-      ≡ outcome cells (status o) (device ReadMode 0 (operation (o .kind) (o .address) (o .«data») (o .left - e) (not (o .toggle))))
-  unfolding acceptedOf readOf
-  read-busy o e wp v l =
-      accepted-cycle part cells (device ReadMode 0 o) (cycle e wp (Read a)) (read-accepted (device ReadMode 0 o) (valid-range (rowOf part) (device ReadMode 0 o) v))
-      ∙ rw (runs-on (rowOf part) cells (device ReadMode 0 o) e l) (simp (lt-ltb 0 (o .left - e) (omega arith)))
+  module _ (k : Core) (e : ℕ) (wp : Bool) (v : Valid (rowOf part) k) where
+    -- while an operation runs on
+    pub read-busy : e < k .running .left
+        → cycleOf part cells (device k 0) (cycle e wp (Read a))
+        ≡ outcome cells (status (k .running)) (device (withRunning k (toggled (withLeft (k .running) (k .running .left - e)))) 0)
+    unfolding acceptedOf readOf
+    read-busy l =
+        read-accepted k e wp (valid-range (rowOf part) k v) ∙ rw (runs-on (rowOf part) cells k e l) (simp (lt-ltb 0 (k .running .left - e) (omega arith)))
 
-  -- a read as, or after, it has completed
-  pub read-done : (o : Operation) (e : ℕ) (wp : Bool) → Valid (rowOf part) (device ReadMode 0 o) → 0 < o .left → o .left ≤ e
-      → cycleOf part cells (device ReadMode 0 o) (cycle e wp (Read a))
-      ≡ outcome (completeOn (rowOf part) o cells) (valueOf (rowOf part .width) (getD (completeOn (rowOf part) o cells) a 0)) freshDevice
-  unfolding acceptedOf readOf
-  read-done o e wp v s l =
-      accepted-cycle part cells (device ReadMode 0 o) (cycle e wp (Read a)) (read-accepted (device ReadMode 0 o) (valid-range (rowOf part) (device ReadMode 0 o) v))
-      ∙ rw (completes (rowOf part) cells (device ReadMode 0 o) e s l)
+    -- as, or after, it has completed
+    pub read-done : 0 < k .running .left → k .running .left ≤ e
+        → cycleOf part cells (device k 0) (cycle e wp (Read a))
+        ≡ outcome (completeOn (rowOf part) (k .running) cells) (valueOf (rowOf part .width) (getD (completeOn (rowOf part) (k .running) cells) a 0)) (device (atRest k) 0)
+    unfolding acceptedOf readOf
+    read-done s l =
+        read-accepted k e wp (valid-range (rowOf part) k v) ∙ rw (completes (rowOf part) cells k e s l) (simp (v .mode))
 
-  -- a write at rest
-  pub write-rest : (d : Device) (e : ℕ) (wp : Bool) (x : ℕ) → inRange (rowOf part) d ≡ true → busy d ≡ false → fitsIn (rowOf part .width) x ≡ true
-      → cycleOf part cells d (cycle e wp (Write a x)) ≡ outcome cells 0 (writtenOf (rowOf part) d wp a x)
-  unfolding acceptedOf writeOf actionRefusal
-  write-rest d e wp x i b f =
-      accepted-cycle part cells d (cycle e wp (Write a x)) (record { known = known; whole = whole; state = i; reach = simp (lt-ltb a (rowOf part .cells) there, f) })
-      ∙ rw (rests (rowOf part) cells d e b, b)
+  -- a write at rest, at a stage
+  module _ (k : Core) (s e : ℕ) (wp : Bool) (x : ℕ) (b : busy k ≡ false) (le : s ≤ 6) (fits : fitsIn (rowOf part .width) x ≡ true) where
+    write-accepted : Accepted part (length cells) (device k s) (Write a x)
+    unfolding actionRefusal
+    write-accepted =
+        record { known = known; whole = whole; state = in-range (rowOf part) k s (stage-rests k s b le) (rest-range (rowOf part) k b); reach = simp (lt-ltb a (rowOf part .cells) there, fits) }
+
+    -- what it leaves, and what it starts, by its effect
+    pub write-leaves : after part (chip cells (device k s)) (cycle e wp (Write a x)) ≡ chip cells (afterEffect (rowOf part) k wp a x (effectOf (rowOf part) s a x))
+    unfolding after acceptedOf writtenOf
+    write-leaves = rw (accepted-cycle part cells (device k s) (cycle e wp (Write a x)) write-accepted, rests (rowOf part) cells k e b, b)
+
+    pub write-starts : startedBy part (chip cells (device k s)) (cycle e wp (Write a x)) ≡ effectStarts (rowOf part) wp a x (effectOf (rowOf part) s a x)
+    unfolding startedBy
+    write-starts = rw (accepting part (length cells) (device k s) (Write a x) write-accepted, rests (rowOf part) cells k e b, b)

@@ -2,6 +2,7 @@ pub mod Over
 pub mod Bits
 pub mod Leaves
 pub mod Accepted
+pub mod Idle
 pub mod Settled
 pub mod Cases
 pub mod Effects

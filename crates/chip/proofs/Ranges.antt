@@ -1,10 +1,10 @@
 -- The model's own states are in range: refusal 5 never arises from them. And no cell is gained or lost.
-use Prim.Native.Nat.{ℕ, _<_}
-use mathlib.Core.Path.{_≡_, refl, ap, _∙_}
+use Prim.Native.Nat.{ℕ, _≤_, _<_}
+use mathlib.Core.Path.{_≡_, refl, _∙_}
 use mathlib.Core.Bool.{Bool, true, false}
 use mathlib.Core.List.{List, [], _∷_, _++_}
 use native.Mathlib.Nat.{le-refl}
-use borrow.Author.Tests.{le-ltb, eqb-true}
+use borrow.Author.Tests.{eqb-true}
 use lib.Dec.{eqb}
 use lib.ListN.{length}
 use Rattle.parts.specs.Width.{fitsIn}
@@ -12,61 +12,87 @@ use Rattle.parts.specs.Table.{rowOf}
 use Rattle.parts.specs.Time.{hasCommand}
 use Rattle.parts.specs.declared.table.Row.{Row}
 use Rattle.parts.proofs.Every.{split}
+use Rattle.chip.specs.declared.device.Mode.{Mode}
+use Rattle.chip.specs.declared.device.Mode.the-variants.{ReadMode}
 use Rattle.chip.specs.declared.device.Operation.{Operation}
+use Rattle.chip.specs.declared.device.Core.{Core}
 use Rattle.chip.specs.declared.device.Device.{Device}
 use Rattle.chip.specs.declared.sequence.Effect.{Effect}
+use Rattle.chip.specs.declared.sequence.Effect.the-variants.{Goes, Starts, Enters}
 use Rattle.chip.specs.declared.cycle.Action.{Action}
 use Rattle.chip.specs.declared.cycle.Action.the-variants.{Read, Write, Idle, Cut}
 use Rattle.chip.specs.declared.cycle.Cycle.{Cycle}
-use Rattle.chip.specs.Device.{busy, inRange}
-use Rattle.chip.specs.Sequence.{ignored, returned, started, afterEffect, writtenOf}
-use Rattle.chip.specs.Cycle.{Chip, Outcome, toggled, readOf, writeOf, cutOf, actionRefusal, cycleRefusal, settledOf, actedOf, acceptedOf, cycleOf}
+use Rattle.chip.specs.declared.cycle.Shown.{Shown}
+use Rattle.chip.specs.Device.{toggled, inMode, withRunning, busyWith, freshCore, busy, device, withCore, stageInRange, deviceInRange}
+use Rattle.chip.specs.Sequence.{ignored, newOperation, afterEffect, writtenOf}
+use Rattle.chip.specs.Cycle.{Chip, Outcome, readOf, cutOf, actionRefusal, cycleRefusal, passed, actedOf, acceptedOf, cycleOf}
 use Rattle.chip.specs.Sized.{Runs}
-use Rattle.chip.specs.Trace.{after, play, startedBy, startedIn}
-use Rattle.chip.proofs.Accepted.{Accepted, accepted, pending, valid-range, write-there, runs}
-use Rattle.chip.proofs.Settled.{settled-length, settled-range, cut-length, read-cells}
+use Rattle.chip.specs.Trace.{after, play, effectStarts, actionStarts, startedBy, startedIn}
+use Rattle.chip.proofs.Accepted.{Accepted, accepted, Valid, pending, valid-range, rest-range, in-range, ranges, stage-none, stage-rests, write-there, runs}
+use Rattle.chip.proofs.Settled.{settled-length, passed-range, cut-length}
 use Rattle.chip.proofs.Effects.{effect-is}
 use Rattle.chip.proofs.Cases.{accepted-cycle}
 
 -- ---- a state in range stays so
-module _ (r : Row) (d : Device) (i : inRange r d ≡ true) where
-  toggled-range : busy d ≡ true → inRange r (toggled d) ≡ true
-  toggled-range b =
-      let v = pending r d i b in
-      valid-range r (toggled d) (record { command = v .command; time = v .time; there = v .there; fits = v .fits; stage = v .stage; mode = v .mode })
+module _ (r : Row) (d : Device) (i : deviceInRange r d ≡ true) where
+  abbrev InRange : Device → Type 0
+  InRange d = deviceInRange r d ≡ true
 
-  written-range : (wp : Bool) (a x : ℕ) → busy d ≡ false → a < r .cells → fitsIn (r .width) x ≡ true → inRange r (writtenOf r d wp a x) ≡ true
-  unfolding writtenOf inRange
-  written-range wp a x b there fits =
-      effect-is (λ (e : Effect). inRange r (afterEffect r d wp a x e) ≡ true) r (d .stage) a x (simp b) (simp b) (λ n le. simp (le-ltb 6 n le, b))
-      (λ k h. split (λ (e : Device). inRange r e ≡ true) (ignored r wp k a) (returned d) (started r k a x) (λ _. simp b)
-      (λ _. valid-range r (started r k a x) (record { command = h; time = le-refl _; there = there; fits = fits; stage = refl; mode = refl })))
+  read-range : (cells : List ℕ) (a : ℕ) → InRange (withCore d (readOf r cells (d .core) a .core))
+  unfolding readOf stageInRange
+  read-range cells a =
+      let w = ranges r d i in
+      split (λ (s : Shown). InRange (withCore d (s .core))) (busy (d .core)) _ _ (λ b. shows (w .0) (pending r (d .core) (w .1) b)) (λ _. i)
+    where
+      after : Core
+      after = withRunning (d .core) (toggled (d .core .running))
 
-acted-range : (r : Row) (h : Chip) (wp : Bool) (a : Action) → inRange r (h .device) ≡ true → actionRefusal r a ≡ 0 → inRange r (actedOf r h wp a .reply .device) ≡ true
-unfolding readOf writeOf cutOf inRange
-acted-range r h wp (Read a) i z =
-    split (λ (o : Outcome). inRange r (o .reply .device) ≡ true) (busy (h .device)) _ _ (λ b. toggled-range r (h .device) i b) (λ _. i)
-acted-range r h wp (Write a x) i z =
-    let w = write-there r a x z in
-    split (λ (e : Device). inRange r e ≡ true) (busy (h .device)) _ _ (λ _. i) (λ b. written-range r (h .device) i wp a x b (w .0) (w .1))
+      shows : stageInRange (d .core) (d .stage) ≡ true → Valid r (d .core) → InRange (withCore d after)
+      shows s v = in-range r after (d .stage) s (valid-range r after (record { command = v .command; time = v .time; there = v .there; fits = v .fits; mode = v .mode }))
+
+  written-range : (wp : Bool) (a x : ℕ) → a < r .cells → fitsIn (r .width) x ≡ true → InRange (writtenOf r d wp a x)
+  unfolding writtenOf
+  written-range wp a x there fits = split InRange (busy (d .core)) d _ (λ _. i) (λ b. effect-is Leaves r (d .stage) a x (goes b) (starts b) (enters b))
+    where
+      k : Core
+      k = d .core
+
+      Leaves : Effect → Type 0
+      Leaves e = InRange (afterEffect r k wp a x e)
+
+      goes : busy k ≡ false → (n : ℕ) → n ≤ 6 → Leaves (Goes n)
+      goes b n le = in-range r k n (stage-rests k n b le) (rest-range r k b)
+
+      enters : busy k ≡ false → (m : Mode) → Leaves (Enters m)
+      enters b m = in-range r (inMode k m) 0 (stage-none (inMode k m)) (rest-range r (inMode k m) b)
+
+      starts : busy k ≡ false → (c : ℕ) → hasCommand r c ≡ true → Leaves (Starts c)
+      starts b c h =
+          split (λ (k : Core). InRange (device k 0)) (ignored r wp c a) (inMode k ReadMode) (busyWith k (newOperation r c a x)) (λ _. enters b ReadMode)
+          (λ _. let n = busyWith k (newOperation r c a x) in
+          in-range r n 0 (stage-none n) (valid-range r n (record { command = h; time = le-refl _; there = there; fits = fits; mode = refl })))
+
+acted-range : (r : Row) (h : Chip) (wp : Bool) (a : Action) → deviceInRange r (h .device) ≡ true → actionRefusal r a ≡ 0 → deviceInRange r (actedOf r h wp a .reply .device) ≡ true
+acted-range r h wp (Read a) i z = read-range r (h .device) i (h .cells) a
+acted-range r h wp (Write a x) i z = let w = write-there r a x z in written-range r (h .device) i wp a x (w .0) (w .1)
 acted-range r h wp Idle i z = i
-acted-range r h wp (Cut s) i z = refl
+acted-range r h wp (Cut s) i z = in-range r freshCore 0 (stage-none freshCore) (rest-range r freshCore refl)
 
 -- the state after an accepted cycle is in range
-pub after-range : (part : ℕ) (h : Chip) (c : Cycle) → Accepted part (length (h .cells)) (h .device) (c .action) → inRange (rowOf part) (after part h c .device) ≡ true
+pub after-range : (part : ℕ) (h : Chip) (c : Cycle) → Accepted part (length (h .cells)) (h .device) (c .action) → deviceInRange (rowOf part) (after part h c .device) ≡ true
 unfolding after acceptedOf
 after-range part h c w =
     rw (accepted-cycle part (h .cells) (h .device) c w)
-    (acted-range (rowOf part) (settledOf (rowOf part) (h .cells) (h .device) (c .elapsed)) (c .wp) (c .action) (settled-range (rowOf part) (h .cells) (h .device) (c .elapsed) (w .state)) (w .reach))
+    (acted-range (rowOf part) (passed (rowOf part) h (c .elapsed)) (c .wp) (c .action) (passed-range (rowOf part) h (c .elapsed) (w .state)) (w .reach))
 
 -- ---- no cell is gained or lost
-acted-length : (r : Row) (h : Chip) (wp : Bool) (a : Action) → Runs r (h .device) (length (h .cells)) → length (actedOf r h wp a .cells) ≡ length (h .cells)
-unfolding writeOf cutOf
-acted-length r h wp (Read a) w = ap length (read-cells r (h .cells) (h .device) a)
+acted-length : (r : Row) (h : Chip) (wp : Bool) (a : Action) → Runs r (h .device .core) (length (h .cells)) → length (actedOf r h wp a .cells) ≡ length (h .cells)
+unfolding cutOf
+acted-length r h wp (Read a) w = refl
 acted-length r h wp (Write a x) w = refl
 acted-length r h wp Idle w = refl
 acted-length r h wp (Cut s) w =
-    split (λ (l : List ℕ). length l ≡ length (h .cells)) (busy (h .device)) _ _ (λ b. cut-length r (h .device .running) (h .cells) (w .within b) s) (λ _. refl)
+    split (λ (l : List ℕ). length l ≡ length (h .cells)) (busy (h .device .core)) _ _ (λ b. cut-length r (h .device .core .running) (h .cells) (w .within b) s) (λ _. refl)
 
 pub after-length : (part : ℕ) (h : Chip) (c : Cycle) → length (after part h c .cells) ≡ length (h .cells)
 unfolding after cycleOf acceptedOf
@@ -77,12 +103,12 @@ after-length part h c =
     r = rowOf part
 
     s : Chip
-    s = settledOf r (h .cells) (h .device) (c .elapsed)
+    s = passed r h (c .elapsed)
 
     kept : Accepted part (length (h .cells)) (h .device) (c .action) → length (actedOf r s (c .wp) (c .action) .cells) ≡ length (h .cells)
     kept w =
-        let e = settled-length r (h .cells) (h .device) (c .elapsed) (runs part (w .known) (h .device) (length (h .cells)) (w .state) (w .whole)) in
-        acted-length r s (c .wp) (c .action) (runs part (w .known) (s .device) (length (s .cells)) (settled-range r (h .cells) (h .device) (c .elapsed) (w .state)) (e ∙ w .whole)) ∙ e
+        let e = settled-length r (h .cells) (h .device .core) (c .elapsed) (runs part (w .known) (h .device .core) (length (h .cells)) (ranges r (h .device) (w .state) .1) (w .whole)) in
+        acted-length r s (c .wp) (c .action) (runs part (w .known) (s .device .core) (length (s .cells)) (ranges r (s .device) (passed-range r h (c .elapsed) (w .state)) .1) (e ∙ w .whole)) ∙ e
 
 pub play-length : (part : ℕ) (cs : List Cycle) (h : Chip) → length (play part h cs .cells) ≡ length (h .cells)
 play-length part [] h = refl
@@ -102,19 +128,24 @@ all-append : (P : Operation → Type 0) (os ps : List Operation) → All P os �
 all-append P [] ps a b = b
 all-append P (o ∷ os) ps a b = (a .0, all-append P os ps (a .1) b)
 
+action-starts : (r : Row) (d : Device) (wp : Bool) (a : Action) → actionRefusal r a ≡ 0 → All (Startable r) (actionStarts r d wp a)
+action-starts r d wp (Read a) z = tt
+action-starts r d wp (Write a x) z =
+    let t = write-there r a x z in
+    split Good (busy (d .core)) _ _ (λ _. tt)
+    (λ _. effect-is (λ (e : Effect). Good (effectStarts r wp a x e)) r (d .stage) a x (λ _ _. tt)
+    (λ k c. split Good (ignored r wp k a) _ _ (λ _. tt) (λ _. (record { command = c; there = t .0; fits = t .1 }, tt))) (λ _. tt))
+  where
+    Good : List Operation → Type 0
+    Good = All (Startable r)
+action-starts r d wp Idle z = tt
+action-starts r d wp (Cut s) z = tt
+
 started-by : (part : ℕ) (h : Chip) (c : Cycle) → All (Startable (rowOf part)) (startedBy part h c)
 unfolding startedBy
 started-by part h c =
-    split Good (eqb (cycleRefusal part (length (h .cells)) (h .device) (c .action)) 0) _ _
-    (λ e. split Good (busy (settledOf (rowOf part) (h .cells) (h .device) (c .elapsed) .device)) _ _ (λ _. tt)
-    (λ _. split Good (busy (after part h c .device)) _ _ (λ b. (valid (after-range part h c (accepted part _ _ _ (eqb-true _ _ e))) b, tt)) (λ _. tt)))
-    (λ _. tt)
-  where
-    Good : List Operation → Type 0
-    Good = All (Startable (rowOf part))
-
-    valid : inRange (rowOf part) (after part h c .device) ≡ true → busy (after part h c .device) ≡ true → Startable (rowOf part) (after part h c .device .running)
-    valid i b = let v = pending (rowOf part) (after part h c .device) i b in record { command = v .command; there = v .there; fits = v .fits }
+    split (All (Startable (rowOf part))) (eqb (cycleRefusal part (length (h .cells)) (h .device) (c .action)) 0) _ _
+    (λ e. action-starts (rowOf part) (passed (rowOf part) h (c .elapsed) .device) (c .wp) (c .action) (accepted part _ _ _ (eqb-true _ _ e) .reach)) (λ _. tt)
 
 pub started-all : (part : ℕ) (cs : List Cycle) (h : Chip) → All (Startable (rowOf part)) (startedIn part h cs)
 started-all part [] h = tt

@@ -1,24 +1,27 @@
 -- Time keeps the number of cells and a state in range.
-use Prim.Native.Nat.{ℕ, _+_, _-_, _≤_}
+use Prim.Native.Nat.{ℕ, _+_, _-_, _≤_, _<_}
 use mathlib.Core.Path.{_≡_, refl, sym, ap, ap₂, _∙_}
 use mathlib.Core.Bool.{true}
 use mathlib.Core.List.{List}
 use native.Mathlib.Omega.{arith}
+use borrow.Author.Tests.{ne-eqb}
 use lib.Dec.{ltb}
 use lib.ListN.{length}
-use Rattle.parts.specs.Table.{rowOf}
+use Rattle.parts.specs.Table.{rowOf, foundOf}
 use Rattle.parts.specs.declared.table.Row.{Row}
+use Rattle.parts.specs.declared.table.Found.{Found}
 use Rattle.parts.proofs.Every.{split}
 use Rattle.chip.specs.declared.device.Operation.{Operation}
+use Rattle.chip.specs.declared.device.Core.{Core}
 use Rattle.chip.specs.declared.device.Device.{Device}
 use Rattle.chip.specs.declared.cycle.Cycle.{Cycle}
 use Rattle.chip.specs.declared.cycle.Reply.{Reply}
-use Rattle.chip.specs.Device.{busy, noOperation, device, inRange}
+use Rattle.chip.specs.Device.{withLeft, withRunning, atRest, busy, device, withCore, coreInRange, stageInRange, deviceInRange}
 use Rattle.chip.specs.Operation.{cellsOf, completeOn, cutOn, finished, scarred}
-use Rattle.chip.specs.Cycle.{Chip, chip, Outcome, withLeft, settledOf, readOf, actionRefusal, cycleRefusal, actedOf, acceptedOf, cycleOf}
+use Rattle.chip.specs.Cycle.{Chip, chip, reply, Settled, settledOf, passed, actionRefusal, cycleRefusalOn, cycleRefusal, actedOf, acceptedOf, cycleOf}
 use Rattle.chip.specs.Sized.{Sized, Runs}
 use Rattle.chip.proofs.Over.{over-length}
-use Rattle.chip.proofs.Accepted.{accepted, Valid, pending, valid-range, sized, runs}
+use Rattle.chip.proofs.Accepted.{accepted, pending, valid-range, rest-range, in-range, ranges, stage-none, stage-busy, sized, runs}
 
 module _ (r : Row) (o : Operation) (cells : List ℕ) (h : cellsOf r o .first + cellsOf r o .count ≤ length cells) where
   pub complete-length : length (completeOn r o cells) ≡ length cells
@@ -29,52 +32,77 @@ module _ (r : Row) (o : Operation) (cells : List ℕ) (h : cellsOf r o .first + 
   unfolding cutOn
   cut-length scar = over-length (scarred r o scar) (cellsOf r o) cells h
 
-pub settled-length : (r : Row) (cells : List ℕ) (d : Device) (e : ℕ) → Runs r d (length cells) → length (settledOf r cells d e .cells) ≡ length cells
+pub settled-length : (r : Row) (cells : List ℕ) (k : Core) (e : ℕ) → Runs r k (length cells) → length (settledOf r cells k e .cells) ≡ length cells
 unfolding settledOf
-settled-length r cells d e w =
-    split Kept (busy d) _ _ (λ b. split Kept (ltb e (d .running .left)) _ _ (λ _. refl) (λ _. complete-length r (d .running) cells (w .within b))) (λ _. refl)
+settled-length r cells k e w =
+    split Kept (busy k) _ _ (λ b. split Kept (ltb e (k .running .left)) _ _ (λ _. refl) (λ _. complete-length r (k .running) cells (w .within b))) (λ _. refl)
   where
-    Kept : Chip → Type 0
-    Kept h = length (h .cells) ≡ length cells
+    Kept : Settled → Type 0
+    Kept s = length (s .cells) ≡ length cells
 
-pub settled-range : (r : Row) (cells : List ℕ) (d : Device) (e : ℕ) → inRange r d ≡ true → inRange r (settledOf r cells d e .device) ≡ true
-unfolding settledOf inRange
-settled-range r cells d e i =
-    split InRange (busy d) _ _ (λ b. split InRange (ltb e (d .running .left)) _ _ (λ l. runs-on (pending r d i b)) (λ _. done (pending r d i b))) (λ _. i)
+pub passed-range : (r : Row) (h : Chip) (e : ℕ) → deviceInRange r (h .device) ≡ true → deviceInRange r (passed r h e .device) ≡ true
+unfolding settledOf
+passed-range r h e i =
+    split InRange (busy k) _ _
+    (λ b. let v = pending r k (w .1) b in
+    let none : h .device .stage ≡ 0 = stage-busy k (h .device .stage) (w .0) b in
+    rw none
+    (split Begun (ltb e (k .running .left)) _ _
+    (λ l. in-range r (runs-on e) 0 (stage-none (runs-on e)) (valid-range r (runs-on e) (record { command = v .command; time = omega (arith, v .time); there = v .there; fits = v .fits; mode = v .mode })))
+    (λ _. in-range r (atRest k) 0 (stage-none (atRest k)) (rest-range r (atRest k) refl))))
+    (λ _. i)
   where
-    InRange : Chip → Type 0
-    InRange h = inRange r (h .device) ≡ true
+    k : Core
+    k = h .device .core
 
-    runs-on : Valid r d → inRange r (withLeft d (d .running .left - e)) ≡ true
-    runs-on v =
-        valid-range r (withLeft d (d .running .left - e))
-        (record { command = v .command; time = omega (arith, v .time); there = v .there; fits = v .fits; stage = v .stage; mode = v .mode })
+    w : (stageInRange k (h .device .stage) ≡ true) × (coreInRange r k ≡ true)
+    w = ranges r (h .device) i
 
-    done : Valid r d → inRange r (device (d .mode) (d .stage) noOperation) ≡ true
-    done v = rw (v .stage)
+    runs-on : ℕ → Core
+    runs-on e = withRunning k (withLeft (k .running) (k .running .left - e))
 
--- a read leaves the cells
-pub read-cells : (r : Row) (cells : List ℕ) (d : Device) (a : ℕ) → readOf r cells d a .cells ≡ cells
-unfolding readOf
-read-cells r cells d a = split (λ (o : Outcome). o .cells ≡ cells) (busy d) _ _ (λ _. refl) (λ _. refl)
+    InRange : Settled → Type 0
+    InRange s = deviceInRange r (withCore (h .device) (s .core)) ≡ true
 
--- ---- an accepted cycle, with what its parts gave: the row r, the device d′ and cells′ once time has passed
-module _ (part : ℕ) (r : Row) (cells cells′ : List ℕ) (d d′ : Device) (c : Cycle) (row : r ≡ rowOf part) (z : cycleRefusal part (length cells) d (c .action) ≡ 0) where
-  pub ready-settle : Sized r × Runs r d (length cells)
-  ready-settle = let w = accepted part (length cells) d (c .action) z in rw row (sized part (w .known), runs part (w .known) d (length cells) (w .state) (w .whole))
+    Begun : Settled → Type 0
+    Begun s = deviceInRange r (device (s .core) 0) ≡ true
 
-  module _ (device : d′ ≡ settledOf r cells d (c .elapsed) .device) (left : cells′ ≡ settledOf r cells d (c .elapsed) .cells) where
-    pub ready-act : Sized r × (Runs r d′ (length cells′) × ((r .cells ≡ length cells′) × (actionRefusal r (c .action) ≡ 0)))
+-- ---- a cycle in the steps of its function: the part found is f, its refusal n is none, time leaves cells′ and the core k′, which the device d′ has
+module _ (part : ℕ) (f : Found) (cells cells′ : List ℕ) (d d′ : Device) (k′ : Core) (c : Cycle) (n : ℕ)
+    (found : f ≡ foundOf part) (asked : n ≡ cycleRefusalOn f (length cells) d (c .action)) (none : n ≤ 0) where
+  zero : cycleRefusal part (length cells) d (c .action) ≡ 0
+  unfolding cycleRefusal
+  zero = let e : n ≡ 0 = omega arith in rw found at (sym asked ∙ e)
+
+  row : f .row ≡ rowOf part
+  row = ap (λ (f : Found). f .row) found
+
+  pub ready-settle : Sized (f .row) × Runs (f .row) (d .core) (length cells)
+  ready-settle =
+      let w = accepted part (length cells) d (c .action) zero in
+      rw row (sized part (w .known), runs part (w .known) (d .core) (length cells) (ranges (rowOf part) d (w .state) .1) (w .whole))
+
+  module _ (left : cells′ ≡ settledOf (f .row) cells (d .core) (c .elapsed) .cells) (core : k′ ≡ settledOf (f .row) cells (d .core) (c .elapsed) .core) (device : d′ ≡ withCore d k′) where
+    reached : chip cells′ d′ ≡ passed (f .row) (chip cells d) (c .elapsed)
+    reached = ap₂ {A = List ℕ} {B = Device} {C = Chip} chip left (device ∙ ap (withCore d) core)
+
+    pub ready-act : Sized (f .row) × (Runs (f .row) (d′ .core) (length cells′) × ((f .row .cells ≡ length cells′) × (actionRefusal (f .row) (c .action) ≡ 0)))
     ready-act =
-        let w = accepted part (length cells) d (c .action) z in
-        let kept : length cells′ ≡ length cells = ap length left ∙ settled-length r cells d (c .elapsed) (ready-settle .1) in
-        let whole : length cells′ ≡ rowOf part .cells = kept ∙ w .whole in
-        let state : inRange (rowOf part) d′ ≡ true = rw (device, row) (settled-range (rowOf part) cells d (c .elapsed) (w .state)) in
-        (ready-settle .0, (rw row (runs part (w .known) d′ (length cells′) state whole), (rw row (sym whole), rw row (w .reach))))
+        let w = accepted part (length cells) d (c .action) zero in
+        let whole : length cells′ ≡ rowOf part .cells = ap length left ∙ (settled-length (f .row) cells (d .core) (c .elapsed) (ready-settle .1) ∙ w .whole) in
+        let state : deviceInRange (rowOf part) d′ ≡ true = rw (ap (λ (h : Chip). h .device) reached, row) (passed-range (rowOf part) (chip cells d) (c .elapsed) (w .state)) in
+        (ready-settle .0, (rw row (runs part (w .known) (d′ .core) (length cells′) (ranges (rowOf part) d′ state .1) whole), (rw row (sym whole), rw row (w .reach))))
 
-    pub whole-cycle : (x : Reply) (y : List ℕ) → x ≡ actedOf r (chip cells′ d′) (c .wp) (c .action) .reply → y ≡ actedOf r (chip cells′ d′) (c .wp) (c .action) .cells
+    pub whole-cycle : (x : Reply) (y : List ℕ) → x ≡ actedOf (f .row) (chip cells′ d′) (c .wp) (c .action) .reply → y ≡ actedOf (f .row) (chip cells′ d′) (c .wp) (c .action) .cells
         → (x ≡ cycleOf part cells d c .reply) × (y ≡ cycleOf part cells d c .cells)
     unfolding cycleOf acceptedOf
-    whole-cycle x y p q =
-        let h : chip cells′ d′ ≡ settledOf (rowOf part) cells d (c .elapsed) = ap₂ {A = List ℕ} {B = Device} {C = Chip} chip left device ∙ ap (λ (r : Row). settledOf r cells d (c .elapsed)) row in
-        rw z (rw (h, row) at p, rw (h, row) at q)
+    whole-cycle x y p q = rw zero (rw (reached, row) at p, rw (reached, row) at q)
+
+-- a cycle that is refused
+pub refused-whole : (part : ℕ) (f : Found) (cells : List ℕ) (d : Device) (c : Cycle) (n : ℕ) → f ≡ foundOf part → n ≡ cycleRefusalOn f (length cells) d (c .action) → 0 < n
+    → (reply n 0 d ≡ cycleOf part cells d c .reply) × (cells ≡ cycleOf part cells d c .cells)
+unfolding cycleOf cycleRefusal
+refused-whole part f cells d c n found asked some =
+    let e : n ≡ cycleRefusalOn (foundOf part) (length cells) d (c .action) = rw found at asked in
+    let one : n ≡ 0 → ⊥ = λ z. omega arith in
+    simp (sym e, ne-eqb n 0 one) (refl, refl)

@@ -4,115 +4,130 @@ use mathlib.Core.Path.{_≡_, refl, sym, ap, _∙_}
 use mathlib.Core.Bool.{Bool, true, false}
 use mathlib.Core.List.{List, [], _∷_, _++_}
 use native.Mathlib.Omega.{arith}
-use borrow.Author.Tests.{ltb-true, lt-ltb}
+use borrow.Author.Tests.{ltb-true, ltb-false, lt-ltb, eqb-true}
 use lib.Dec.{eqb, ltb}
 use lib.ListN.{length}
 use Rattle.parts.specs.Pick.{pick}
-use Rattle.parts.specs.Table.{rowOf}
+use Rattle.parts.specs.Table.{rowOf, partRefusal}
+use Rattle.parts.specs.Time.{hasCommand, timeOf}
 use Rattle.parts.specs.declared.table.Row.{Row}
-use Rattle.parts.proofs.Every.{apart, both, split}
+use Rattle.parts.proofs.Every.{apart, both, unless, split}
+use Rattle.parts.proofs.Sound.{time-some}
 use Rattle.chip.specs.declared.device.Operation.{Operation}
+use Rattle.chip.specs.declared.device.Core.{Core}
 use Rattle.chip.specs.declared.device.Device.{Device}
+use Rattle.chip.specs.declared.sequence.Effect.{Effect}
 use Rattle.chip.specs.declared.cycle.Action.{Action}
 use Rattle.chip.specs.declared.cycle.Action.the-variants.{Read, Write, Idle, Cut}
 use Rattle.chip.specs.declared.cycle.Cycle.{Cycle}
-use Rattle.chip.specs.Device.{device, busy, idle}
+use Rattle.chip.specs.declared.cycle.Shown.{Shown}
+use Rattle.chip.specs.Device.{busy, coreIdle, idle}
 use Rattle.chip.specs.Operation.{cellsOf, completeOn}
-use Rattle.chip.specs.Sequence.{writtenOf}
-use Rattle.chip.specs.Cycle.{Chip, chip, Outcome, settledOf, readOf, writeOf, actedOf, cycleRefusal, acceptedOf, cycleOf}
-use Rattle.chip.specs.Trace.{leaves, after, play, startedBy, startedIn, perform, uncutAction, uncut}
+use Rattle.chip.specs.Sequence.{ignored, coreAfter, effectOf, writtenOf}
+use Rattle.chip.specs.Cycle.{Chip, Outcome, Settled, settledOf, passed, readOf, actedOf, cycleRefusal, acceptedOf, cycleOf}
+use Rattle.chip.specs.Trace.{leaves, after, play, effectStarts, actionStarts, startedBy, startedIn, perform, uncutAction, uncut}
+use Rattle.chip.proofs.Accepted.{Accepted, accepted}
+use Rattle.chip.proofs.Idle.{idle-is, idle-rests}
+use Rattle.chip.proofs.Effects.{effect-is}
+
+-- two choices by one test
+twice : {A B : Type 0} (P : A → B → Type 0) (b : Bool) (x y : A) (u v : B) → (b ≡ true → P x u) → (b ≡ false → P y v) → P (pick b x y) (pick b u v)
+twice P true x y u v f g = f refl
+twice P false x y u v f g = g refl
+
+-- every command takes some time
+timely : (part : ℕ) → partRefusal part ≡ 0 → (k : ℕ) → hasCommand (rowOf part) k ≡ true → 0 < timeOf (rowOf part) k
+unfolding hasCommand
+timely part known k c = time-some part known k (ltb-false 3 k (unless _ _ c .0))
 
 -- the cells as they will be once the operation that is pending has completed
-unfoldable pub coming : Row → Chip → List ℕ
-coming r h = pick (busy (h .device)) (completeOn r (h .device .running) (h .cells)) (h .cells)
+unfoldable coming : Row → List ℕ → Core → List ℕ
+coming r cells k = pick (busy k) (completeOn r (k .running) cells) cells
 
--- nothing pending, nothing to come
-pub none-coming : (r : Row) (h : Chip) → busy (h .device) ≡ false → coming r h ≡ h .cells
-unfolding coming
-none-coming r h b = rw b
+abbrev comingTo : Row → Chip → List ℕ
+comingTo r h = coming r (h .cells) (h .device .core)
 
-pub idle-rests : (d : Device) → idle d ≡ true → busy d ≡ false
-unfolding idle
-idle-rests d = split (λ (b : Bool). b ≡ true → busy d ≡ false) (busy d) false _ (λ _ e. apart e) (λ b _. b)
+-- ---- what is to come, as time passes and cycles act
+module _ (r : Row) (cells : List ℕ) (k : Core) where
+  settled-coming : (e : ℕ) → coming r (settledOf r cells k e .cells) (settledOf r cells k e .core) ≡ coming r cells k
+  unfolding coming settledOf completeOn cellsOf
+  settled-coming e =
+      split Same (busy k) _ _
+      (λ b. split Same (ltb e (k .running .left)) _ _
+      (λ l. let more : 0 < k .running .left - e = omega (arith, ltb-true e (k .running .left) l) in rw (b, lt-ltb 0 (k .running .left - e) more))
+      (λ _. rw b))
+      (λ _. refl)
+    where
+      Same : Settled → Type 0
+      Same s = coming r (s .cells) (s .core) ≡ coming r cells k
 
--- time changes nothing of what is to come
-settled-coming : (r : Row) (cells : List ℕ) (d : Device) (e : ℕ) → coming r (settledOf r cells d e) ≡ coming r (chip cells d)
-unfolding coming settledOf completeOn cellsOf
-settled-coming r cells d e =
-    split Same (busy d) _ _
-    (λ b. split Same (ltb e (d .running .left)) _ _
-    (λ l. let more : 0 < d .running .left - e = omega (arith, ltb-true e (d .running .left) l) in rw (b, lt-ltb 0 (d .running .left - e) more))
-    (λ _. rw b))
-    (λ _. refl)
-  where
-    Same : Chip → Type 0
-    Same h = coming r h ≡ coming r (chip cells d)
+  read-coming : (a : ℕ) → coming r cells (readOf r cells k a .core) ≡ coming r cells k
+  unfolding coming readOf completeOn cellsOf
+  read-coming a = split (λ (s : Shown). coming r cells (s .core) ≡ coming r cells k) (busy k) _ _ (λ _. refl) (λ _. refl)
 
--- what is to come of a device that was at rest
-starts-coming : (r : Row) (cells : List ℕ) (d : Device) → pick (busy d) (completeOn r (d .running) cells) cells ≡ perform r (pick (busy d) (d .running ∷ []) []) cells
-starts-coming r cells d = by (busy d)
-  where
-    by : (b : Bool) → pick b (completeOn r (d .running) cells) cells ≡ perform r (pick b (d .running ∷ []) []) cells
-    by true = refl
-    by false = refl
+  -- after an effect on a core at rest: what it starts, performed
+  effect-coming : (s : ℕ) (wp : Bool) (a x : ℕ) → ((c : ℕ) → hasCommand r c ≡ true → 0 < timeOf r c) → busy k ≡ false
+      → coming r cells (coreAfter r k wp a x (effectOf r s a x)) ≡ perform r (effectStarts r wp a x (effectOf r s a x)) (coming r cells k)
+  unfolding coming
+  effect-coming s wp a x time b =
+      effect-is (λ (e : Effect). Comes (coreAfter r k wp a x e) (effectStarts r wp a x e)) r s a x (λ _ _. refl)
+      (λ c h. twice Comes (ignored r wp c a) _ _ _ _ (λ _. refl) (λ _. rw (b, lt-ltb 0 (timeOf r c) (time c h)))) (λ _. refl)
+    where
+      Comes : Core → List Operation → Type 0
+      Comes n os = coming r cells n ≡ perform r os (coming r cells k)
 
--- what is to come after a cycle that acts on a chip at rest or busy: what it starts, performed
-acted-coming : (r : Row) (h : Chip) (wp : Bool) (a : Action) → uncutAction a ≡ true
-    → coming r (leaves (actedOf r h wp a))
-    ≡ perform r (pick (busy (h .device)) [] (pick (busy (actedOf r h wp a .reply .device)) (actedOf r h wp a .reply .device .running ∷ []) [])) (coming r h)
-unfolding coming readOf writeOf completeOn cellsOf
-acted-coming r h wp (Read a) u = split Comes (busy (h .device)) _ _ (λ b. rw b) (λ b. rw b)
-  where
-    Comes : Outcome → Type 0
-    Comes o =
-        coming r (leaves o) ≡ perform r (pick (busy (h .device)) [] (pick (busy (o .reply .device)) (o .reply .device .running ∷ []) [])) (coming r h)
-acted-coming r h wp (Write a x) u =
-    split Comes (busy (h .device)) (h .device) (writtenOf r (h .device) wp a x) (λ b. rw b) (λ b. rw b (starts-coming r (h .cells) (writtenOf r (h .device) wp a x)))
-  where
-    Comes : Device → Type 0
-    Comes d = coming r (chip (h .cells) d) ≡ perform r (pick (busy (h .device)) [] (pick (busy d) (d .running ∷ []) [])) (coming r h)
-acted-coming r h wp Idle u = split (λ (b : List Operation). coming r h ≡ perform r b (coming r h)) (busy (h .device)) [] _ (λ _. refl) (λ b. rw b)
-acted-coming r h wp (Cut s) u = apart u
+acted-coming : (r : Row) (h : Chip) (wp : Bool) (a : Action) → ((c : ℕ) → hasCommand r c ≡ true → 0 < timeOf r c) → uncutAction a ≡ true
+    → comingTo r (leaves (actedOf r h wp a)) ≡ perform r (actionStarts r (h .device) wp a) (comingTo r h)
+unfolding writtenOf
+acted-coming r h wp (Read a) time u = read-coming r (h .cells) (h .device .core) a
+acted-coming r h wp (Write a x) time u =
+    twice (λ (d : Device) (os : List Operation). coming r (h .cells) (d .core) ≡ perform r os (comingTo r h)) (busy (h .device .core)) (h .device) _ [] _ (λ _. refl)
+    (λ b. effect-coming r (h .cells) (h .device .core) (h .device .stage) wp a x time b)
+acted-coming r h wp Idle time u = refl
+acted-coming r h wp (Cut s) time u = apart u
 
 perform-append : (r : Row) (os ps : List Operation) (cells : List ℕ) → perform r (os ++ ps) cells ≡ perform r ps (perform r os cells)
 perform-append r [] ps cells = refl
 perform-append r (o ∷ os) ps cells = perform-append r os ps (completeOn r o cells)
 
 -- one cycle
-pub cycle-coming : (part : ℕ) (h : Chip) (c : Cycle) → uncutAction (c .action) ≡ true
-    → coming (rowOf part) (after part h c) ≡ perform (rowOf part) (startedBy part h c) (coming (rowOf part) h)
+cycle-coming : (part : ℕ) (h : Chip) (c : Cycle) → uncutAction (c .action) ≡ true
+    → comingTo (rowOf part) (after part h c) ≡ perform (rowOf part) (startedBy part h c) (comingTo (rowOf part) h)
 unfolding after startedBy cycleOf acceptedOf
-cycle-coming part h c u = by (eqb (cycleRefusal part (length (h .cells)) (h .device) (c .action)) 0)
+cycle-coming part h c u =
+    twice (λ (o : Outcome) (os : List Operation). comingTo r (leaves o) ≡ perform r os (comingTo r h)) (eqb (cycleRefusal part (length (h .cells)) (h .device) (c .action)) 0) _ _ _ _
+    (λ e. acts (accepted part _ _ _ (eqb-true _ _ e))) (λ _. refl)
   where
     r : Row
     r = rowOf part
 
     s : Chip
-    s = settledOf r (h .cells) (h .device) (c .elapsed)
+    s = passed r h (c .elapsed)
 
-    o : Bool → Outcome
-    o b = pick b (actedOf r s (c .wp) (c .action)) (record { cells = h .cells; reply = record { answer = cycleRefusal part (length (h .cells)) (h .device) (c .action); value = 0; device = h .device } })
-
-    starts : Bool → List Operation
-    starts b = pick (busy (s .device)) [] (pick (busy (o b .reply .device)) (o b .reply .device .running ∷ []) [])
-
-    by : (b : Bool) → coming r (leaves (o b)) ≡ perform r (pick b (starts b) []) (coming r h)
-    by true = acted-coming r s (c .wp) (c .action) u ∙ ap (perform r (starts true)) (settled-coming r (h .cells) (h .device) (c .elapsed))
-    by false = refl
+    acts : Accepted part (length (h .cells)) (h .device) (c .action)
+        → comingTo r (leaves (actedOf r s (c .wp) (c .action))) ≡ perform r (actionStarts r (s .device) (c .wp) (c .action)) (comingTo r h)
+    acts w =
+        acted-coming r s (c .wp) (c .action) (timely part (w .known)) u
+        ∙ ap (perform r (actionStarts r (s .device) (c .wp) (c .action))) (settled-coming r (h .cells) (h .device .core) (c .elapsed))
 
 -- a list of cycles
-pub trace-coming : (part : ℕ) (cs : List Cycle) (h : Chip) → uncut cs ≡ true
-    → coming (rowOf part) (play part h cs) ≡ perform (rowOf part) (startedIn part h cs) (coming (rowOf part) h)
+trace-coming : (part : ℕ) (cs : List Cycle) (h : Chip) → uncut cs ≡ true
+    → comingTo (rowOf part) (play part h cs) ≡ perform (rowOf part) (startedIn part h cs) (comingTo (rowOf part) h)
 trace-coming part [] h u = refl
 trace-coming part (c ∷ cs) h u =
     let w = both (uncutAction (c .action)) (uncut cs) u in
     trace-coming part cs (after part h c) (w .1)
     ∙ (ap (perform (rowOf part) (startedIn part (after part h c) cs)) (cycle-coming part h c (w .0))
-    ∙ sym (perform-append (rowOf part) (startedBy part h c) (startedIn part (after part h c) cs) (coming (rowOf part) h)))
+    ∙ sym (perform-append (rowOf part) (startedBy part h c) (startedIn part (after part h c) cs) (comingTo (rowOf part) h)))
 
--- THE TRACE LAW: from a device at rest, without a cut, to one at rest
-pub trace : (part : ℕ) (cs : List Cycle) (h : Chip) → uncut cs ≡ true → busy (h .device) ≡ false → busy (play part h cs .device) ≡ false
+-- idle: nothing to come
+idle-coming : (r : Row) (h : Chip) → idle (h .device) ≡ true → comingTo r h ≡ h .cells
+unfolding coming
+idle-coming r h i = rw (idle-rests (h .device .core) (idle-is (h .device) i .1))
+
+-- THE TRACE LAW: from an idle device, without a cut, to an idle one
+pub trace : (part : ℕ) (cs : List Cycle) (h : Chip) → uncut cs ≡ true → idle (h .device) ≡ true → idle (play part h cs .device) ≡ true
     → play part h cs .cells ≡ perform (rowOf part) (startedIn part h cs) (h .cells)
-trace part cs h u b e =
-    sym (none-coming (rowOf part) (play part h cs) e)
-    ∙ (trace-coming part cs h u ∙ ap (perform (rowOf part) (startedIn part h cs)) (none-coming (rowOf part) h b))
+trace part cs h u i j =
+    sym (idle-coming (rowOf part) (play part h cs) j)
+    ∙ (trace-coming part cs h u ∙ ap (perform (rowOf part) (startedIn part h cs)) (idle-coming (rowOf part) h i))

@@ -1,22 +1,25 @@
 -- One bus cycle: refusals in order; then time passes; then the cycle acts.
 use Prim.Native.Nat.{ℕ, _+_, _-_, _*_, _/_, _%_}
-use mathlib.Core.Bool.{Bool, not}
+use mathlib.Core.Bool.{Bool}
 use mathlib.Core.List.{List}
 use lib.Dec.{eqb, ltb}
 use lib.ListN.{length, getD}
 use Rattle.parts.specs.Pick.{pick}
 use Rattle.parts.specs.Width.{valueOf, fitsIn}
-use Rattle.parts.specs.Table.{rowOf, partRefusal}
+use Rattle.parts.specs.Table.{rowOf, foundOf}
 use Rattle.parts.specs.declared.table.Row.{Row}
+use Rattle.parts.specs.declared.table.Found.{Found}
 use Rattle.chip.specs.declared.device.Mode.{Mode}
 use Rattle.chip.specs.declared.device.Mode.the-variants.{ReadMode, Identification}
 use Rattle.chip.specs.declared.device.Operation.{Operation}
+use Rattle.chip.specs.declared.device.Core.{Core}
 use Rattle.chip.specs.declared.device.Device.{Device}
 use Rattle.chip.specs.declared.cycle.Action.{Action}
 use Rattle.chip.specs.declared.cycle.Action.the-variants.{Read, Write, Idle, Cut}
 use Rattle.chip.specs.declared.cycle.Cycle.{Cycle}
 use Rattle.chip.specs.declared.cycle.Reply.{Reply}
-use Rattle.chip.specs.Device.{operation, noOperation, device, freshDevice, busy, inRange}
+use Rattle.chip.specs.declared.cycle.Shown.{Shown}
+use Rattle.chip.specs.Device.{withLeft, toggled, withRunning, atRest, busy, withCore, freshDevice, deviceInRange}
 use Rattle.chip.specs.Operation.{completeOn, cutOn}
 use Rattle.chip.specs.Sequence.{writtenOf}
 
@@ -46,25 +49,38 @@ actionRefusal r (Write a x) = pick (ltb a (r .cells)) (pick (fitsIn (r .width) x
 actionRefusal r Idle = 0
 actionRefusal r (Cut s) = 0
 
--- 1, 2, 5, then 3 and 4, on the state as given
-unfoldable pub cycleRefusal : ℕ → ℕ → Device → Action → ℕ
-cycleRefusal part lent d a =
-    pick (ltb 0 (partRefusal part)) (partRefusal part)
-    (pick (eqb lent (rowOf part .cells))
-    (pick (inRange (rowOf part) d) (actionRefusal (rowOf part) a) 5)
+-- 1, 2, 5, then 3 and 4, on the state as given and on a part that was looked up
+abbrev pub cycleRefusalOn : Found → ℕ → Device → Action → ℕ
+cycleRefusalOn f lent d a =
+    pick (ltb 0 (f .answer)) (f .answer)
+    (pick (eqb lent (f .row .cells))
+    (pick (deviceInRange (f .row) d) (actionRefusal (f .row) a) 5)
     2)
 
--- ---- time passes: with e below what is left the rest is left, otherwise the operation completes on the cells
-abbrev pub withLeft : Device → ℕ → Device
-withLeft d l = device (d .mode) (d .stage) (operation (d .running .kind) (d .running .address) (d .running .«data») l (d .running .toggle))
+unfoldable pub cycleRefusal : ℕ → ℕ → Device → Action → ℕ
+cycleRefusal part lent d a = cycleRefusalOn (foundOf part) lent d a
 
-unfoldable pub settledOf : Row → List ℕ → Device → ℕ → Chip
-settledOf r cells d e =
-    pick (busy d)
-    (pick (ltb e (d .running .left))
-    (chip cells (withLeft d (d .running .left - e)))
-    (chip (completeOn r (d .running) cells) (device (d .mode) (d .stage) noOperation)))
-    (chip cells d)
+-- ---- time passes: with e below what is left the rest is left, otherwise the operation completes on the cells
+pub record Settled : Type 0 where
+  pub cells : List ℕ
+  pub core : Core
+
+abbrev pub settled : List ℕ → Core → Settled
+settled cells k = record { cells = cells; core = k }
+
+unfoldable pub settledOf : Row → List ℕ → Core → ℕ → Settled
+settledOf r cells k e =
+    pick (busy k)
+    (pick (ltb e (k .running .left))
+    (settled cells (withRunning k (withLeft (k .running) (k .running .left - e))))
+    (settled (completeOn r (k .running) cells) (atRest k)))
+    (settled cells k)
+
+-- the chip once time has passed
+abbrev pub passed : Row → Chip → ℕ → Chip
+passed r h e =
+    let s = settledOf r (h .cells) (h .device .core) e in
+    chip (s .cells) (withCore (h .device) (s .core))
 
 -- ---- reads
 -- bit 7 while busy: the complement of the data's for program, 0 for erase
@@ -78,9 +94,6 @@ bit6 o = pick (o .toggle) 1 0
 abbrev pub status : Operation → ℕ
 status o = bit7 o * 128 + bit6 o * 64
 
-abbrev pub toggled : Device → Device
-toggled d = device (d .mode) (d .stage) (operation (d .running .kind) (d .running .address) (d .running .«data») (d .running .left) (not (d .running .toggle)))
-
 -- in identification mode address 0 shows the maker, BFH, 1 the device, others 0
 abbrev pub identity : Row → ℕ → ℕ
 identity r a = pick (eqb a 0) 0xbf (pick (eqb a 1) (r .device) 0)
@@ -90,28 +103,31 @@ abbrev pub shownOf : Row → List ℕ → Mode → ℕ → ℕ
 shownOf r cells ReadMode a = valueOf (r .width) (getD cells a 0)
 shownOf r cells Identification a = identity r a
 
-unfoldable pub readOf : Row → List ℕ → Device → ℕ → Outcome
-readOf r cells d a =
-    pick (busy d) (outcome cells (status (d .running)) (toggled d))
-    (outcome cells (shownOf r cells (d .mode) a) d)
+-- the value, and the core afterwards
+abbrev pub shown : ℕ → Core → Shown
+shown v k = record { value = v; core = k }
 
--- a write while busy does nothing
-unfoldable pub writeOf : Row → List ℕ → Device → Bool → ℕ → ℕ → Outcome
-writeOf r cells d wp a x = outcome cells 0 (pick (busy d) d (writtenOf r d wp a x))
+unfoldable pub readOf : Row → List ℕ → Core → ℕ → Shown
+readOf r cells k a =
+    pick (busy k) (shown (status (k .running)) (withRunning k (toggled (k .running))))
+    (shown (shownOf r cells (k .mode) a) k)
 
--- a power cut: an operation is cut short; after any cut the device is fresh
-unfoldable pub cutOf : Row → List ℕ → Device → ℕ → Outcome
-cutOf r cells d s = outcome (pick (busy d) (cutOn r (d .running) s cells) cells) 0 freshDevice
+-- ---- a power cut: the cells that it leaves, an operation being cut short
+unfoldable pub cutOf : Row → List ℕ → Core → ℕ → List ℕ
+cutOf r cells k s = pick (busy k) (cutOn r (k .running) s cells) cells
 
+-- ---- the cycle acts; after any cut the device is fresh
 abbrev pub actedOf : Row → Chip → Bool → Action → Outcome
-actedOf r h wp (Read a) = readOf r (h .cells) (h .device) a
-actedOf r h wp (Write a x) = writeOf r (h .cells) (h .device) wp a x
+actedOf r h wp (Read a) =
+    let s = readOf r (h .cells) (h .device .core) a in
+    outcome (h .cells) (s .value) (withCore (h .device) (s .core))
+actedOf r h wp (Write a x) = outcome (h .cells) 0 (writtenOf r (h .device) wp a x)
 actedOf r h wp Idle = outcome (h .cells) 0 (h .device)
-actedOf r h wp (Cut s) = cutOf r (h .cells) (h .device) s
+actedOf r h wp (Cut s) = outcome (cutOf r (h .cells) (h .device .core) s) 0 freshDevice
 
 -- ---- the cycle
 unfoldable pub acceptedOf : Row → List ℕ → Device → Cycle → Outcome
-acceptedOf r cells d c = actedOf r (settledOf r cells d (c .elapsed)) (c .wp) (c .action)
+acceptedOf r cells d c = actedOf r (passed r (chip cells d) (c .elapsed)) (c .wp) (c .action)
 
 -- a refused cycle hands back state and cells as they came
 unfoldable pub cycleOf : ℕ → List ℕ → Device → Cycle → Outcome

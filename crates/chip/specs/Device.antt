@@ -1,7 +1,7 @@
 -- The device state, and the states in range for a part.
 use Prim.Native.Nat.{ℕ}
-use mathlib.Core.Bool.{Bool, true, false}
-use lib.Dec.{ltb}
+use mathlib.Core.Bool.{Bool, true, false, not}
+use lib.Dec.{eqb, ltb}
 use Rattle.parts.specs.Pick.{pick}
 use Rattle.parts.specs.Width.{fitsIn}
 use Rattle.parts.specs.Time.{hasCommand, timeOf}
@@ -9,9 +9,10 @@ use Rattle.parts.specs.declared.table.Row.{Row}
 use Rattle.chip.specs.declared.device.Mode.{Mode}
 use Rattle.chip.specs.declared.device.Mode.the-variants.{ReadMode, Identification}
 use Rattle.chip.specs.declared.device.Operation.{Operation}
+use Rattle.chip.specs.declared.device.Core.{Core}
 use Rattle.chip.specs.declared.device.Device.{Device}
 
--- an operation: its command's number, address, data, the µs left, and what bit 6 shows at the next busy read
+-- ---- an operation: its command's number, address, data, the µs left, and what bit 6 shows at the next busy read
 abbrev pub operation : ℕ → ℕ → ℕ → ℕ → Bool → Operation
 operation k a x l t = record { kind = k; address = a; «data» = x; left = l; toggle = t }
 
@@ -19,17 +20,55 @@ operation k a x l t = record { kind = k; address = a; «data» = x; left = l; to
 abbrev pub noOperation : Operation
 noOperation = operation 0 0 0 0 false
 
-abbrev pub device : Mode → ℕ → Operation → Device
-device m s o = record { mode = m; stage = s; running = o }
+-- with so much time left
+abbrev pub withLeft : Operation → ℕ → Operation
+withLeft o l = operation (o .kind) (o .address) (o .«data») l (o .toggle)
+
+-- after a busy read
+abbrev pub toggled : Operation → Operation
+toggled o = operation (o .kind) (o .address) (o .«data») (o .left) (not (o .toggle))
+
+-- ---- the core: all of a device but its write sequence; time, reads and cuts use nothing else
+abbrev pub core : Mode → Operation → Core
+core m o = record { mode = m; running = o }
+
+-- in another mode
+abbrev pub inMode : Core → Mode → Core
+inMode k m = core m (k .running)
+
+-- with what runs
+abbrev pub withRunning : Core → Operation → Core
+withRunning k o = core (k .mode) o
+
+-- an operation starts: read mode, and it runs
+abbrev pub busyWith : Core → Operation → Core
+busyWith k o = withRunning (inMode k ReadMode) o
+
+-- an operation has completed: nothing runs
+abbrev pub atRest : Core → Core
+atRest k = withRunning k noOperation
+
+-- read mode, nothing running
+abbrev pub freshCore : Core
+freshCore = core ReadMode noOperation
+
+-- busy: an operation is pending exactly when time is left
+abbrev pub busy : Core → Bool
+busy k = ltb 0 (k .running .left)
+
+-- ---- the device: its core, and the stage of its write sequence
+abbrev pub device : Core → ℕ → Device
+device k s = record { core = k; stage = s }
+
+-- at the same stage
+abbrev pub withCore : Device → Core → Device
+withCore d k = device k (d .stage)
 
 -- fresh: read mode, no sequence, idle
 abbrev pub freshDevice : Device
-freshDevice = device ReadMode 0 noOperation
+freshDevice = device freshCore 0
 
--- busy: an operation is pending exactly when time is left
-abbrev pub busy : Device → Bool
-busy d = ltb 0 (d .running .left)
-
+-- ---- states in range
 -- a pending operation: a kind the part has, no more time than its table time, an address of the part, data that fits
 unfoldable pub validOperation : Row → Operation → Bool
 validOperation r o =
@@ -43,14 +82,20 @@ abbrev pub reads : Mode → Bool
 reads ReadMode = true
 reads Identification = false
 
--- a state in range: a step within the seven stages; with an operation pending a valid one, read mode and no sequence
-unfoldable pub inRange : Row → Device → Bool
-inRange r d =
-    pick (ltb 6 (d .stage)) false
-    (pick (busy d)
-    (pick (ltb 0 (d .stage)) false (pick (reads (d .mode)) (validOperation r (d .running)) false))
-    true)
+-- with an operation pending a valid one, and read mode
+unfoldable pub coreInRange : Row → Core → Bool
+coreInRange r k = pick (busy k) (pick (reads (k .mode)) (validOperation r (k .running)) false) true
 
--- idle: read mode with no sequence begun and nothing running
+-- a step within the seven stages; with an operation pending no sequence
+unfoldable pub stageInRange : Core → ℕ → Bool
+stageInRange k s = pick (busy k) (eqb s 0) (ltb s 7)
+
+unfoldable pub deviceInRange : Row → Device → Bool
+deviceInRange r d = pick (stageInRange (d .core) (d .stage)) (coreInRange r (d .core)) false
+
+-- ---- idle: read mode with no sequence begun and nothing running
+unfoldable pub coreIdle : Core → Bool
+coreIdle k = pick (busy k) false (reads (k .mode))
+
 unfoldable pub idle : Device → Bool
-idle d = pick (busy d) false (pick (ltb 0 (d .stage)) false (reads (d .mode)))
+idle d = pick (eqb (d .stage) 0) (coreIdle (d .core)) false

@@ -8,10 +8,12 @@ use Rattle.parts.specs.Span.{hasBlocks, holdsb, protectedOf}
 use Rattle.parts.specs.Time.{timeOf}
 use Rattle.parts.specs.declared.table.Row.{Row}
 use Rattle.chip.specs.declared.device.Mode.the-variants.{ReadMode, Identification}
+use Rattle.chip.specs.declared.device.Operation.{Operation}
+use Rattle.chip.specs.declared.device.Core.{Core}
 use Rattle.chip.specs.declared.device.Device.{Device}
 use Rattle.chip.specs.declared.sequence.Effect.{Effect}
-use Rattle.chip.specs.declared.sequence.Effect.the-variants.{Goes, Starts, Identifies, Returns}
-use Rattle.chip.specs.Device.{device, operation}
+use Rattle.chip.specs.declared.sequence.Effect.the-variants.{Goes, Starts, Enters}
+use Rattle.chip.specs.Device.{operation, inMode, busyWith, busy, device}
 
 -- what a write has to be: a byte at U1, at U2 or at any address; or anything
 pub data Wanted : Type 0 where
@@ -20,7 +22,7 @@ pub data Wanted : Type 0 where
   At : ℕ → Wanted
   Anything : Wanted
 
--- a write at a stage that is what it has to be has an effect: the sequence goes on to a stage, an operation starts, or the mode changes
+-- a write at a stage that is what it has to be has an effect: the sequence goes on to a stage, an operation starts, or a mode is entered
 pub record Rule : Type 0 where
   pub stage : ℕ
   pub wanted : Wanted
@@ -29,9 +31,13 @@ pub record Rule : Type 0 where
 abbrev pub rule : ℕ → Wanted → Effect → Rule
 rule s w e = record { stage = s; wanted = w; effect = e }
 
+-- a write that does not continue the sequence returns to read mode
+abbrev pub broken : Effect
+broken = Enters ReadMode
+
 -- the block code starts nothing where the part has no blocks
 abbrev pub blockErase : Row → Effect
-blockErase r = pick (hasBlocks r) (Starts 2) Returns
+blockErase r = pick (hasBlocks r) (Starts 2) broken
 
 -- stages: 0 none begun, 1 AAH, 2 55H, 3 armed by A0H, 4 after 80H, 5 AAH again, 6 55H again
 abbrev pub commands : Row → List Rule
@@ -46,8 +52,8 @@ commands r =
     ∷ rule 6 (At (r .«sector_code»)) (Starts 1)
     ∷ rule 6 (At (r .«block_code»)) (blockErase r)
     ∷ rule 6 (AtU1 0x10) (Starts 3)
-    ∷ rule 2 (AtU1 0x90) Identifies
-    ∷ rule 2 (AtU1 0xf0) Returns
+    ∷ rule 2 (AtU1 0x90) (Enters Identification)
+    ∷ rule 2 (AtU1 0xf0) (Enters ReadMode)
     ∷ []
 
 -- unlock addresses are compared on the low bits, command bytes on the low eight data bits
@@ -57,9 +63,9 @@ isWanted r a x (AtU2 b) = pick (eqb (a % r .compared) (r .u2)) (eqb (x % 256) b)
 isWanted r a x (At b) = eqb (x % 256) b
 isWanted r a x Anything = true
 
--- the effect of the first rule that a write meets; a write that meets none returns to read mode
+-- the effect of the first rule that a write meets; a write that meets none is broken
 abbrev pub firstMet : Row → List Rule → ℕ → ℕ → ℕ → Effect
-firstMet r [] s a x = Returns
+firstMet r [] s a x = broken
 firstMet r (u ∷ us) s a x = pick (pick (eqb s (u .stage)) (isWanted r a x (u .wanted)) false) (u .effect) (firstMet r us s a x)
 
 unfoldable pub effectOf : Row → ℕ → ℕ → ℕ → Effect
@@ -72,21 +78,25 @@ ignored r wp k a =
     (pick (eqb k 3) (ltb 0 (protectedOf r .count))
     (holdsb (protectedOf r) a))
 
--- read mode with no sequence begun
-abbrev pub returned : Device → Device
-returned d = device ReadMode 0 (d .running)
+-- the operation that a write starts, with its table time left
+abbrev pub newOperation : Row → ℕ → ℕ → ℕ → Operation
+newOperation r k a x = operation k a x (timeOf r k) true
 
--- the operation that a write starts
-abbrev pub started : Row → ℕ → ℕ → ℕ → Device
-started r k a x = device ReadMode 0 (operation k a x (timeOf r k) true)
+-- the core after an effect, WP# sampled at this write; an ignored command returns to read mode
+abbrev pub coreAfter : Row → Core → Bool → ℕ → ℕ → Effect → Core
+coreAfter r k wp a x (Goes s) = k
+coreAfter r k wp a x (Starts c) = pick (ignored r wp c a) (inMode k ReadMode) (busyWith k (newOperation r c a x))
+coreAfter r k wp a x (Enters m) = inMode k m
 
--- the device after an effect, WP# sampled at this write
-abbrev pub afterEffect : Row → Device → Bool → ℕ → ℕ → Effect → Device
-afterEffect r d wp a x (Goes s) = device (d .mode) s (d .running)
-afterEffect r d wp a x (Starts k) = pick (ignored r wp k a) (returned d) (started r k a x)
-afterEffect r d wp a x Identifies = device Identification 0 (d .running)
-afterEffect r d wp a x Returns = returned d
+-- the stage after an effect: but for a sequence that goes on, none is begun
+abbrev pub stageAfter : Effect → ℕ
+stageAfter (Goes s) = s
+stageAfter (Starts c) = 0
+stageAfter (Enters m) = 0
 
--- a write to a device that is not busy
+abbrev pub afterEffect : Row → Core → Bool → ℕ → ℕ → Effect → Device
+afterEffect r k wp a x e = device (coreAfter r k wp a x e) (stageAfter e)
+
+-- a write; while busy it does nothing
 unfoldable pub writtenOf : Row → Device → Bool → ℕ → ℕ → Device
-writtenOf r d wp a x = afterEffect r d wp a x (effectOf r (d .stage) a x)
+writtenOf r d wp a x = pick (busy (d .core)) d (afterEffect r (d .core) wp a x (effectOf r (d .stage) a x))

@@ -3,7 +3,7 @@ use Prim.Native.Nat.{ℕ, _+_, _≤_, _<_}
 use mathlib.Core.Path.{_≡_}
 use mathlib.Core.Bool.{true}
 use Rattle.parts.specs.declared.table.Row.{Row}
-use Rattle.chip.specs.declared.device.Device.{Device}
+use Rattle.chip.specs.declared.device.Core.{Core}
 use Rattle.chip.specs.Device.{busy}
 use Rattle.chip.specs.Operation.{cellsOf}
 
@@ -14,5 +14,5 @@ pub record Sized (r : Row) : Type 0 where
   pub identifies : r .device < 65536
 
 -- the cells of an operation that runs are among the n lent ones
-pub record Runs (r : Row) (d : Device) (n : ℕ) : Type 0 where
-  pub within : busy d ≡ true → cellsOf r (d .running) .first + cellsOf r (d .running) .count ≤ n
+pub record Runs (r : Row) (k : Core) (n : ℕ) : Type 0 where
+  pub within : busy k ≡ true → cellsOf r (k .running) .first + cellsOf r (k .running) .count ≤ n

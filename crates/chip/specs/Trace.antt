@@ -8,12 +8,16 @@ use Rattle.parts.specs.Pick.{pick}
 use Rattle.parts.specs.Table.{rowOf}
 use Rattle.parts.specs.declared.table.Row.{Row}
 use Rattle.chip.specs.declared.device.Operation.{Operation}
+use Rattle.chip.specs.declared.device.Device.{Device}
+use Rattle.chip.specs.declared.sequence.Effect.{Effect}
+use Rattle.chip.specs.declared.sequence.Effect.the-variants.{Goes, Starts, Enters}
 use Rattle.chip.specs.declared.cycle.Action.{Action}
 use Rattle.chip.specs.declared.cycle.Action.the-variants.{Read, Write, Idle, Cut}
 use Rattle.chip.specs.declared.cycle.Cycle.{Cycle}
 use Rattle.chip.specs.Device.{busy}
 use Rattle.chip.specs.Operation.{completeOn}
-use Rattle.chip.specs.Cycle.{Chip, chip, Outcome, cycleRefusal, settledOf, cycleOf}
+use Rattle.chip.specs.Sequence.{effectOf, ignored, newOperation}
+use Rattle.chip.specs.Cycle.{Chip, chip, Outcome, cycleRefusal, passed, cycleOf}
 
 -- the chip that an outcome leaves
 abbrev pub leaves : Outcome → Chip
@@ -27,12 +31,24 @@ abbrev pub play : ℕ → Chip → List Cycle → Chip
 play part h [] = h
 play part h (c ∷ cs) = play part (after part h c) cs
 
--- the operation that a cycle starts: none is pending once time has passed, and one is once the cycle has acted
+-- the operation that an effect starts: a command's that is not ignored
+abbrev pub effectStarts : Row → Bool → ℕ → ℕ → Effect → List Operation
+effectStarts r wp a x (Goes s) = []
+effectStarts r wp a x (Starts k) = pick (ignored r wp k a) [] (newOperation r k a x ∷ [])
+effectStarts r wp a x (Enters m) = []
+
+-- the operation that an action starts: that of a write's effect, and none while busy
+abbrev pub actionStarts : Row → Device → Bool → Action → List Operation
+actionStarts r d wp (Read a) = []
+actionStarts r d wp (Write a x) = pick (busy (d .core)) [] (effectStarts r wp a x (effectOf r (d .stage) a x))
+actionStarts r d wp Idle = []
+actionStarts r d wp (Cut s) = []
+
+-- the operation that a cycle starts, once its time has passed
 unfoldable pub startedBy : ℕ → Chip → Cycle → List Operation
 startedBy part h c =
     pick (eqb (cycleRefusal part (length (h .cells)) (h .device) (c .action)) 0)
-    (pick (busy (settledOf (rowOf part) (h .cells) (h .device) (c .elapsed) .device)) []
-    (pick (busy (after part h c .device)) (after part h c .device .running ∷ []) []))
+    (actionStarts (rowOf part) (passed (rowOf part) h (c .elapsed) .device) (c .wp) (c .action))
     []
 
 -- the operations that a list of cycles starts, in order

@@ -1,22 +1,19 @@
 // One bus cycle: refusals in order; then time passes; then the cycle acts.
+use crate::Core;
 use crate::Device;
 use crate::Mode;
 use crate::Operation;
 use crate::device::fresh;
-use crate::device::in_range;
-use crate::device::no_operation;
 use crate::operation::complete;
 use crate::operation::cut_short;
 use crate::sequence::written;
+use parts::Found;
 use parts::Row;
 ghost use mathlib.Core.Path.{_≡_};
 ghost use Prim.Native.Nat.{_<_};
 ghost use lib.ListN.{length};
-ghost use Rattle.parts.specs.Pick.{pick};
-ghost use Rattle.chip.specs.Device.{busy};
-ghost use Rattle.chip.specs.Operation.{cutOn};
-ghost use Rattle.chip.specs.Sequence.{writtenOf};
-ghost use Rattle.chip.specs.Cycle.{actedOf, actionRefusal, bit6, bit7, chip, cycleOf, cycleRefusal, identity, readOf, settledOf, shownOf, status, toggled, withLeft};
+ghost use mathlib.Core.Bool.{true};
+ghost use Rattle.chip.specs.Cycle.{actedOf, actionRefusal, bit6, bit7, chip, cutOf, cycleOf, cycleRefusalOn, identity, readOf, settledOf, shownOf, status};
 ghost use Rattle.chip.specs.Sized.{Runs, Sized};
 
 // What a cycle does: read an address, write an address with data, nothing, or a power cut with a scar.
@@ -39,6 +36,12 @@ pub struct Reply {
     pub answer: u32,
     pub value: u16,
     pub device: Device,
+}
+
+// What a read shows, and the core after it.
+pub(crate) struct Shown {
+    pub(crate) value: u16,
+    pub(crate) core: Core,
 }
 
 // The refusal of an address and data to write.
@@ -77,17 +80,16 @@ fn action_refusal(row: Row, action: Action) -> u32
 }
 
 // The refusal of a cycle: 1, 2, 5, then 3 and 4.
-fn cycle_refusal(part: u32, lent: usize, d: Device, action: Action) -> u32
-    ensures { λ r. ⌜ r ≡ cycleRefusal part lent d action ⌝ }
+fn cycle_refusal(found: Found, lent: usize, d: Device, action: Action) -> u32
+    ensures { λ r. ⌜ r ≡ cycleRefusalOn found lent d action ⌝ }
 {
-    let found = parts::part_row(part);
     let answer = found.answer;
     if 0 < answer {
         return answer;
     }
     let row = found.row;
     if lent == row.cells as usize {
-        if in_range(row, d) {
+        if d.in_range(row) {
             return action_refusal(row, action);
         }
         return 5;
@@ -95,47 +97,22 @@ fn cycle_refusal(part: u32, lent: usize, d: Device, action: Action) -> u32
     2
 }
 
-// The same device with so much time left.
-fn with_left(d: Device, left: u32) -> Device
-    ensures { λ r. ⌜ r ≡ withLeft d left ⌝ }
-{
-    let mode = d.mode;
-    let o = d.running;
-    let running = Operation {
-        kind: o.kind,
-        address: o.address,
-        data: o.data,
-        left,
-        toggle: o.toggle,
-    };
-    Device {
-        mode,
-        stage: d.stage,
-        running,
-    }
-}
-
 // Time passes.
-fn settle(cells: &mut [u16], row: Row, d: Device, elapsed: u32) -> Device
+fn settle(cells: &mut [u16], row: Row, core: Core, elapsed: u32) -> Core
     requires { ⌜ Sized row ⌝ }
-    requires { ⌜ Runs row d (length (now cells)) ⌝ }
-    ensures { λ r. ⌜ (r ≡ settledOf row (now (cells .entry)) d elapsed .device) × (now (cells .exit) ≡ settledOf row (now (cells .entry)) d elapsed .cells) ⌝ }
+    requires { ⌜ Runs row core (length (now cells)) ⌝ }
+    ensures { λ r. ⌜ (r ≡ settledOf row (now (cells .entry)) core elapsed .core) × (now (cells .exit) ≡ settledOf row (now (cells .entry)) core elapsed .cells) ⌝ }
 {
-    let o = d.running;
+    let o = core.running;
     let left = o.left;
     if left <= 0 {
-        return d;
+        return core;
     }
     if elapsed < left {
-        return with_left(d, left - elapsed);
+        return core.with_running(o.with_left(left - elapsed));
     }
     complete(&mut *cells, row, o);
-    let mode = d.mode;
-    Device {
-        mode,
-        stage: d.stage,
-        running: no_operation(),
-    }
+    core.at_rest()
 }
 
 // Bit 7 while busy.
@@ -165,26 +142,6 @@ fn busy_status(o: Operation) -> u16
     bit_7(o) * 128 + bit_6(o) * 64
 }
 
-// The device after a busy read.
-fn toggled_device(d: Device) -> Device
-    ensures { λ r. ⌜ r ≡ toggled d ⌝ }
-{
-    let mode = d.mode;
-    let o = d.running;
-    let running = Operation {
-        kind: o.kind,
-        address: o.address,
-        data: o.data,
-        left: o.left,
-        toggle: !o.toggle,
-    };
-    Device {
-        mode,
-        stage: d.stage,
-        running,
-    }
-}
-
 // What identification mode shows at an address.
 fn identity_at(row: Row, a: u32) -> u16
     requires { ⌜ Sized row ⌝ }
@@ -200,7 +157,7 @@ fn identity_at(row: Row, a: u32) -> u16
 }
 
 // What a read at rest shows.
-fn shown(cells: &[u16], row: Row, mode: Mode, a: u32) -> u16
+fn rest_value(cells: &[u16], row: Row, mode: Mode, a: u32) -> u16
     requires { ⌜ Sized row ⌝ }
     requires { ⌜ a < length (now cells) ⌝ }
     ensures { λ r. ⌜ r ≡ shownOf row (now (cells .entry)) mode a ⌝ }
@@ -212,54 +169,55 @@ fn shown(cells: &[u16], row: Row, mode: Mode, a: u32) -> u16
 }
 
 // A read, after its time has passed.
-fn read_cycle(cells: &[u16], row: Row, d: Device, a: u32) -> Reply
+fn look(cells: &[u16], row: Row, core: Core, a: u32) -> Shown
     requires { ⌜ Sized row ⌝ }
     requires { ⌜ a < length (now cells) ⌝ }
-    ensures { λ r. ⌜ r ≡ readOf row (now (cells .entry)) d a .reply ⌝ }
+    ensures { λ r. ⌜ r ≡ readOf row (now (cells .entry)) core a ⌝ }
 {
-    let o = d.running;
-    if 0 < o.left {
-        return Reply {
-            answer: 0,
+    if core.is_busy() {
+        let o = core.running;
+        return Shown {
             value: busy_status(o),
-            device: toggled_device(d),
+            core: core.with_running(o.toggled()),
         };
     }
-    let mode = d.mode;
-    Reply {
-        answer: 0,
-        value: shown(cells, row, mode, a),
-        device: d,
+    let mode = core.mode;
+    Shown {
+        value: rest_value(cells, row, mode, a),
+        core,
     }
-}
-
-// A write, after its time has passed.
-fn write_cycle(row: Row, d: Device, wp: bool, a: u32, x: u16) -> Device
-    requires { ⌜ Sized row ⌝ }
-    ensures { λ r. ⌜ r ≡ pick (busy d) d (writtenOf row d wp a x) ⌝ }
-{
-    let o = d.running;
-    if 0 < o.left {
-        return d;
-    }
-    written(row, d, wp, a, x)
 }
 
 // A power cut, after its time has passed.
-fn cut_cycle(cells: &mut [u16], row: Row, d: Device, scar: u16)
-    requires { ⌜ Runs row d (length (now cells)) ⌝ }
-    ensures { λ _. ⌜ now (cells .exit) ≡ pick (busy d) (cutOn row (d .running) scar (now (cells .entry))) (now (cells .entry)) ⌝ }
+fn cut(cells: &mut [u16], row: Row, core: Core, scar: u16)
+    requires { ⌜ Runs row core (length (now cells)) ⌝ }
+    ensures { λ _. ⌜ now (cells .exit) ≡ cutOf row (now (cells .entry)) core scar ⌝ }
 {
-    let o = d.running;
+    let o = core.running;
     if 0 < o.left {
         cut_short(cells, row, o, scar);
+    }
+}
+
+// A read of a device.
+fn read_cycle(cells: &[u16], row: Row, d: Device, a: u32) -> Reply
+    requires { ⌜ Sized row ⌝ }
+    requires { ⌜ a < length (now cells) ⌝ }
+    ensures { λ r. ⌜ r ≡ actedOf row (chip (now (cells .entry)) d) true (Action.Read a) .reply ⌝ }
+{
+    let s = look(cells, row, d.core, a);
+    let core = s.core;
+    Reply {
+        answer: 0,
+        value: s.value,
+        device: d.with_core(core),
     }
 }
 
 // The cycle acts.
 fn act(cells: &mut [u16], row: Row, d: Device, wp: bool, action: Action) -> Reply
     requires { ⌜ Sized row ⌝ }
-    requires { ⌜ Runs row d (length (now cells)) ⌝ }
+    requires { ⌜ Runs row (d .core) (length (now cells)) ⌝ }
     requires { ⌜ (row .cells ≡ length (now cells)) × (actionRefusal row action ≡ 0) ⌝ }
     ensures { λ r. ⌜ (r ≡ actedOf row (chip (now (cells .entry)) d) wp action .reply) × (now (cells .exit) ≡ actedOf row (chip (now (cells .entry)) d) wp action .cells) ⌝ }
 {
@@ -268,7 +226,7 @@ fn act(cells: &mut [u16], row: Row, d: Device, wp: bool, action: Action) -> Repl
         Action::Write(a, x) => Reply {
             answer: 0,
             value: 0,
-            device: write_cycle(row, d, wp, a, x),
+            device: written(row, d, wp, a, x),
         },
         Action::Idle => Reply {
             answer: 0,
@@ -276,7 +234,7 @@ fn act(cells: &mut [u16], row: Row, d: Device, wp: bool, action: Action) -> Repl
             device: d,
         },
         Action::Cut(scar) => {
-            cut_cycle(&mut *cells, row, d, scar);
+            cut(&mut *cells, row, d.core, scar);
             Reply {
                 answer: 0,
                 value: 0,
@@ -290,8 +248,9 @@ fn act(cells: &mut [u16], row: Row, d: Device, wp: bool, action: Action) -> Repl
 pub fn bus_cycle(part: u32, cells: &mut [u16], device: Device, cycle: Cycle) -> Reply
     ensures { λ r. ⌜ (r ≡ cycleOf part (now (cells .entry)) device cycle .reply) × (now (cells .exit) ≡ cycleOf part (now (cells .entry)) device cycle .cells) ⌝ }
 {
+    let found = parts::part_row(part);
     let action = cycle.action;
-    let answer = cycle_refusal(part, cells.len(), device, action);
+    let answer = cycle_refusal(found, cells.len(), device, action);
     if 0 < answer {
         return Reply {
             answer,
@@ -299,8 +258,7 @@ pub fn bus_cycle(part: u32, cells: &mut [u16], device: Device, cycle: Cycle) -> 
             device,
         };
     }
-    let found = parts::part_row(part);
     let row = found.row;
-    let settled = settle(&mut *cells, row, device, cycle.elapsed);
-    act(&mut *cells, row, settled, cycle.wp, action)
+    let core = settle(&mut *cells, row, device.core, cycle.elapsed);
+    act(&mut *cells, row, device.with_core(core), cycle.wp, action)
 }

@@ -1,7 +1,7 @@
-// The device state: mode, stage of the write sequence, and the operation that runs.
+// The device state: its core, that is its mode and the operation that runs, and the stage of its write sequence.
 use parts::Row;
 ghost use mathlib.Core.Path.{_≡_};
-ghost use Rattle.chip.specs.Device.{freshDevice, inRange, noOperation, reads, validOperation};
+ghost use Rattle.chip.specs.Device.{atRest, busy, busyWith, coreInRange, deviceInRange, freshDevice, inMode, noOperation, reads, stageInRange, toggled, validOperation, withCore, withLeft, withRunning};
 
 pub enum Mode {
     ReadMode,
@@ -18,15 +18,20 @@ pub struct Operation {
     pub toggle: bool,
 }
 
-// Stages: 0 no sequence begun, 1 AAH, 2 55H, 3 armed by A0H, 4 after 80H, 5 AAH again, 6 55H again.
-pub struct Device {
+// All of a device but its write sequence: time, reads and cuts use nothing else.
+pub struct Core {
     pub mode: Mode,
-    pub stage: u32,
     pub running: Operation,
 }
 
+// Stages: 0 no sequence begun, 1 AAH, 2 55H, 3 armed by A0H, 4 after 80H, 5 AAH again, 6 55H again.
+pub struct Device {
+    pub core: Core,
+    pub stage: u32,
+}
+
 // Nothing pending.
-pub(crate) fn no_operation() -> Operation
+fn no_operation() -> Operation
     ensures { λ r. ⌜ r ≡ noOperation ⌝ }
 {
     Operation {
@@ -38,62 +43,159 @@ pub(crate) fn no_operation() -> Operation
     }
 }
 
+impl Operation {
+    // With so much time left.
+    pub(crate) fn with_left(self, left: u32) -> Operation
+        ensures { λ r. ⌜ r ≡ withLeft self left ⌝ }
+    {
+        Operation {
+            kind: self.kind,
+            address: self.address,
+            data: self.data,
+            left,
+            toggle: self.toggle,
+        }
+    }
+
+    // After a busy read.
+    pub(crate) fn toggled(self) -> Operation
+        ensures { λ r. ⌜ r ≡ toggled self ⌝ }
+    {
+        Operation {
+            kind: self.kind,
+            address: self.address,
+            data: self.data,
+            left: self.left,
+            toggle: !self.toggle,
+        }
+    }
+
+    // Whether, with time left, it is one that the part can be at.
+    fn is_valid(self, row: Row) -> bool
+        ensures { λ r. ⌜ r ≡ validOperation row self ⌝ }
+    {
+        let kind = self.kind;
+        if !row.has_command(kind) {
+            return false;
+        }
+        if row.time(kind) < self.left {
+            return false;
+        }
+        if self.address < row.cells {
+            return parts::fits(row.width, self.data);
+        }
+        false
+    }
+}
+
+impl Mode {
+    // Whether it is read mode.
+    fn reads(self) -> bool
+        ensures { λ r. ⌜ r ≡ reads self ⌝ }
+    {
+        match self {
+            Mode::ReadMode => true,
+            Mode::Identification => false,
+        }
+    }
+}
+
+impl Core {
+    // In another mode.
+    pub(crate) fn in_mode(self, mode: Mode) -> Core
+        ensures { λ r. ⌜ r ≡ inMode self mode ⌝ }
+    {
+        let running = self.running;
+        Core { mode, running }
+    }
+
+    // With what runs.
+    pub(crate) fn with_running(self, running: Operation) -> Core
+        ensures { λ r. ⌜ r ≡ withRunning self running ⌝ }
+    {
+        let mode = self.mode;
+        Core { mode, running }
+    }
+
+    // An operation starts: read mode, and it runs.
+    pub(crate) fn busy_with(self, running: Operation) -> Core
+        ensures { λ r. ⌜ r ≡ busyWith self running ⌝ }
+    {
+        let read = self.in_mode(Mode::ReadMode);
+        read.with_running(running)
+    }
+
+    // An operation has completed: nothing runs.
+    pub(crate) fn at_rest(self) -> Core
+        ensures { λ r. ⌜ r ≡ atRest self ⌝ }
+    {
+        self.with_running(no_operation())
+    }
+
+    // Whether an operation runs.
+    pub(crate) fn is_busy(self) -> bool
+        ensures { λ r. ⌜ r ≡ busy self ⌝ }
+    {
+        let o = self.running;
+        0 < o.left
+    }
+
+    // Whether the core is in range for the part.
+    fn in_range(self, row: Row) -> bool
+        ensures { λ r. ⌜ r ≡ coreInRange row self ⌝ }
+    {
+        if !self.is_busy() {
+            return true;
+        }
+        let mode = self.mode;
+        if mode.reads() {
+            let o = self.running;
+            return o.is_valid(row);
+        }
+        false
+    }
+
+    // Whether a stage is in range beside it.
+    fn allows_stage(self, stage: u32) -> bool
+        ensures { λ r. ⌜ r ≡ stageInRange self stage ⌝ }
+    {
+        if self.is_busy() {
+            return stage == 0;
+        }
+        stage < 7
+    }
+}
+
+impl Device {
+    // At the same stage.
+    pub(crate) fn with_core(self, core: Core) -> Device
+        ensures { λ r. ⌜ r ≡ withCore self core ⌝ }
+    {
+        Device {
+            core,
+            stage: self.stage,
+        }
+    }
+
+    // Whether the state is in range for the part.
+    pub(crate) fn in_range(self, row: Row) -> bool
+        ensures { λ r. ⌜ r ≡ deviceInRange row self ⌝ }
+    {
+        let core = self.core;
+        if core.allows_stage(self.stage) {
+            return core.in_range(row);
+        }
+        false
+    }
+}
+
 // A fresh device: read mode, no sequence, idle.
 pub fn fresh() -> Device
     ensures { λ r. ⌜ r ≡ freshDevice ⌝ }
 {
-    Device {
+    let core = Core {
         mode: Mode::ReadMode,
-        stage: 0,
         running: no_operation(),
-    }
-}
-
-// Whether an operation with time left is one that the part can be at.
-fn valid_operation(row: Row, o: Operation) -> bool
-    ensures { λ r. ⌜ r ≡ validOperation row o ⌝ }
-{
-    let kind = o.kind;
-    if !row.has_command(kind) {
-        return false;
-    }
-    if row.time(kind) < o.left {
-        return false;
-    }
-    if o.address < row.cells {
-        return parts::fits(row.width, o.data);
-    }
-    false
-}
-
-// Whether a mode is read mode.
-fn reads_cells(mode: Mode) -> bool
-    ensures { λ r. ⌜ r ≡ reads mode ⌝ }
-{
-    match mode {
-        Mode::ReadMode => true,
-        Mode::Identification => false,
-    }
-}
-
-// Whether the state is in range for the part.
-pub(crate) fn in_range(row: Row, d: Device) -> bool
-    ensures { λ r. ⌜ r ≡ inRange row d ⌝ }
-{
-    let stage = d.stage;
-    if 6 < stage {
-        return false;
-    }
-    let o = d.running;
-    if o.left <= 0 {
-        return true;
-    }
-    if 0 < stage {
-        return false;
-    }
-    let mode = d.mode;
-    if reads_cells(mode) {
-        return valid_operation(row, o);
-    }
-    false
+    };
+    Device { core, stage: 0 }
 }

@@ -8,6 +8,7 @@ pub use cycle::Action;
 pub use cycle::Cycle;
 pub use cycle::Reply;
 pub use cycle::bus_cycle;
+pub use device::Core;
 pub use device::Device;
 pub use device::Mode;
 pub use device::Operation;

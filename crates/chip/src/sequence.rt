@@ -1,23 +1,23 @@
-// The writes in sequence: what follows from a write to a device that is not busy.
+// The writes in sequence: what follows from a write.
+use crate::Core;
 use crate::Device;
 use crate::Mode;
 use crate::Operation;
 use parts::Row;
 ghost use mathlib.Core.Path.{_≡_};
 ghost use Rattle.parts.specs.Pick.{pick};
-ghost use Rattle.chip.specs.Sequence.{AtU1, AtU2, afterEffect, blockErase, effectOf, ignored, isWanted, returned, started, writtenOf};
+ghost use Rattle.chip.specs.Sequence.{AtU1, AtU2, blockErase, broken, coreAfter, effectOf, ignored, isWanted, stageAfter, writtenOf};
 ghost use Rattle.chip.specs.Sized.{Sized};
 
-// What follows: the sequence goes on to a stage, a command's operation starts, identification mode, or read mode.
+// What follows: the sequence goes on to a stage, a command's operation starts, or a mode is entered.
 pub enum Effect {
     Goes(u32),
     Starts(u32),
-    Identifies,
-    Returns,
+    Enters(Mode),
 }
 
 // A write that does not continue the sequence returns to read mode; it is not taken as a first write.
-const BROKEN: Effect = Effect::Returns;
+const BROKEN: Effect = Effect::Enters(Mode::ReadMode);
 
 // Whether a write is a byte at U1.
 fn at_u1(row: Row, a: u32, x: u16, byte: u32) -> bool
@@ -43,7 +43,7 @@ fn at_u2(row: Row, a: u32, x: u16, byte: u32) -> bool
 
 // On to a stage, or broken.
 fn on(met: bool, stage: u32) -> Effect
-    ensures { λ r. ⌜ r ≡ pick met (Effect.Goes stage) Effect.Returns ⌝ }
+    ensures { λ r. ⌜ r ≡ pick met (Effect.Goes stage) broken ⌝ }
 {
     if met {
         return Effect::Goes(stage);
@@ -63,7 +63,7 @@ fn third_write(row: Row, a: u32, x: u16) -> Effect
         return Effect::Goes(4);
     }
     if at_u1(row, a, x, 0x90) {
-        return Effect::Identifies;
+        return Effect::Enters(Mode::Identification);
     }
     BROKEN
 }
@@ -127,24 +127,12 @@ fn is_ignored(row: Row, wp: bool, command: u32, a: u32) -> bool
     protected.holds(a)
 }
 
-// Read mode with no sequence begun.
-fn back_to_read(d: Device) -> Device
-    ensures { λ r. ⌜ r ≡ returned d ⌝ }
-{
-    let running = d.running;
-    Device {
-        mode: Mode::ReadMode,
-        stage: 0,
-        running,
-    }
-}
-
 // The operation starts, unless it is protected.
-fn start(row: Row, d: Device, wp: bool, command: u32, a: u32, x: u16) -> Device
-    ensures { λ r. ⌜ r ≡ pick (ignored row wp command a) (returned d) (started row command a x) ⌝ }
+fn start(row: Row, core: Core, wp: bool, command: u32, a: u32, x: u16) -> Core
+    ensures { λ r. ⌜ r ≡ coreAfter row core wp a x (Effect.Starts command) ⌝ }
 {
     if is_ignored(row, wp, command, a) {
-        return back_to_read(d);
+        return core.in_mode(Mode::ReadMode);
     }
     let operation = Operation {
         kind: command,
@@ -153,40 +141,43 @@ fn start(row: Row, d: Device, wp: bool, command: u32, a: u32, x: u16) -> Device
         left: row.time(command),
         toggle: true,
     };
-    Device {
-        mode: Mode::ReadMode,
-        stage: 0,
-        running: operation,
-    }
+    core.busy_with(operation)
 }
 
-// The device after an effect.
-fn after_effect(row: Row, d: Device, wp: bool, a: u32, x: u16, effect: Effect) -> Device
-    ensures { λ r. ⌜ r ≡ afterEffect row d wp a x effect ⌝ }
+// The core after an effect.
+fn core_after(row: Row, core: Core, wp: bool, a: u32, x: u16, effect: Effect) -> Core
+    ensures { λ r. ⌜ r ≡ coreAfter row core wp a x effect ⌝ }
 {
-    let mode = d.mode;
-    let running = d.running;
     match effect {
-        Effect::Goes(stage) => Device {
-            mode,
-            stage,
-            running,
-        },
-        Effect::Starts(command) => start(row, d, wp, command, a, x),
-        Effect::Identifies => Device {
-            mode: Mode::Identification,
-            stage: 0,
-            running,
-        },
-        Effect::Returns => back_to_read(d),
+        Effect::Goes(_) => core,
+        Effect::Starts(command) => start(row, core, wp, command, a, x),
+        Effect::Enters(mode) => core.in_mode(mode),
     }
 }
 
-// A write to a device that is not busy.
+// The stage after an effect.
+fn stage_after(effect: Effect) -> u32
+    ensures { λ r. ⌜ r ≡ stageAfter effect ⌝ }
+{
+    match effect {
+        Effect::Goes(stage) => stage,
+        Effect::Starts(_) => 0,
+        Effect::Enters(_) => 0,
+    }
+}
+
+// A write; while busy it does nothing.
 pub(crate) fn written(row: Row, d: Device, wp: bool, a: u32, x: u16) -> Device
     requires { ⌜ Sized row ⌝ }
     ensures { λ r. ⌜ r ≡ writtenOf row d wp a x ⌝ }
 {
+    let core = d.core;
+    if core.is_busy() {
+        return d;
+    }
     let effect = effect_of(row, d.stage, a, x);
-    after_effect(row, d, wp, a, x, effect)
+    Device {
+        core: core_after(row, core, wp, a, x, effect),
+        stage: stage_after(effect),
+    }
 }

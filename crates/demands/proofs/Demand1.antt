@@ -30,8 +30,7 @@ use Rattle.chip.specs.declared.device.Device.{Device}
 use Rattle.chip.specs.declared.cycle.Action.{Action}
 use Rattle.chip.specs.declared.cycle.Action.the-variants.{Read, Write, Idle, Cut}
 use Rattle.chip.specs.declared.cycle.Cycle.{Cycle}
-use Rattle.chip.specs.Device.{busy}
-use Rattle.chip.specs.Cycle.{Chip, Outcome, reply, cycleRefusal, settledOf, readOf, writeOf, cutOf, actedOf, acceptedOf, cycleOf}
+use Rattle.chip.specs.Cycle.{Chip, chip, Outcome, reply, cycleRefusal, passed, actedOf, acceptedOf, cycleOf}
 use Rattle.chip.proofs.bus_cycle.Kinds as bus-kinds
 use Rattle.chip.proofs.bus_cycle.Reads as bus-reads
 use Rattle.driver.specs.declared.machine.Started.{Started}
@@ -89,8 +88,7 @@ by-test answer n good bad g b = (by (eqb n 0) refl, λ e. rw (ne-eqb n 0 e))
 
 -- ---- one bus cycle: 1, 2, 5, 3 (read or write), 4 (write)
 acted-answers : (r : Row) (h : Chip) (wp : Bool) (a : Action) → actedOf r h wp a .reply .answer ≡ 0
-unfolding readOf writeOf cutOf
-acted-answers r h wp (Read a) = split (λ (o : Outcome). o .reply .answer ≡ 0) (busy (h .device)) _ _ (λ _. refl) (λ _. refl)
+acted-answers r h wp (Read a) = refl
 acted-answers r h wp (Write a x) = refl
 acted-answers r h wp Idle = refl
 acted-answers r h wp (Cut c) = refl
@@ -116,7 +114,7 @@ module _ (κs : Lfts 1) (a : Dens κs bus-kinds.ps) (x : resT bus-kinds.r κs .D
   unfolding cycleOf acceptedOf
   bus-cycle-refuses =
       rw (promise .0, promise .1)
-      (by-test (λ (o : Outcome). o .reply .answer) bus-refusal _ _ (acted-answers _ (settledOf _ cells device (cycle .elapsed)) (cycle .wp) (cycle .action)) refl)
+      (by-test (λ (o : Outcome). o .reply .answer) bus-refusal _ _ (acted-answers _ (passed _ (chip cells device) (cycle .elapsed)) (cycle .wp) (cycle .action)) refl)
 
 -- ---- the driver's start and a command's writes: 1, 10 (start), 14, 3, 4
 module _ (κs : Lfts 0) (a : Dens κs start-kinds.ps) (x : resT start-kinds.r κs .Denot) (s : AtExit (endedOf 0 start-kinds.ps start-kinds.r) κs) (promise : start-reads.Post κs a x s) where

@@ -17,14 +17,13 @@ use Rattle.parts.specs.Pick.{pick}
 use Rattle.parts.specs.Table.{rowOf}
 use Rattle.parts.specs.Time.{pollsOf}
 use Rattle.parts.specs.declared.table.Row.{Row}
-use Rattle.chip.specs.declared.device.Mode.the-variants.{ReadMode}
 use Rattle.chip.specs.declared.device.Device.{Device}
 use Rattle.chip.specs.declared.device.Operation.{Operation}
 use Rattle.chip.specs.declared.cycle.Action.the-variants.{Read}
 use Rattle.chip.specs.declared.cycle.Cycle.{Cycle}
-use Rattle.chip.specs.Device.{device, freshDevice, idle}
+use Rattle.chip.specs.Device.{busyWith, device, freshDevice, idle}
 use Rattle.chip.specs.Sequence.{ignored}
-use Rattle.chip.specs.Cycle.{Chip, chip, Outcome, cycleRefusal, settledOf, actedOf, acceptedOf, cycleOf}
+use Rattle.chip.specs.Cycle.{Chip, chip, Outcome, cycleRefusal, passed, actedOf, acceptedOf, cycleOf}
 use Rattle.chip.specs.Trace.{play, startedIn}
 use Rattle.chip.proofs.bus_cycle.Kinds as bus-kinds
 use Rattle.chip.proofs.bus_cycle.Reads as bus-reads
@@ -43,10 +42,10 @@ use Rattle.driver.proofs.command_writes.Reads as writes-reads
 
 -- ---- one bus cycle: bus_cycle(part, cells, device, cycle)
 module _ (κs : Lfts 1) (a : Dens κs bus-kinds.ps) (x : resT bus-kinds.r κs .Denot) (s : AtExit (endedOf 1 bus-kinds.ps bus-kinds.r) κs) (promise : bus-reads.Post κs a x s) where
-  -- Of a cycle that is not refused, first time passes (`settledOf`), then the cycle acts (`actedOf`): that gives the value, the state and the cells.
+  -- Of a cycle that is not refused, first time passes (`passed`), then the cycle acts (`actedOf`): that gives the value, the state and the cells.
   pub cycle-acts : cycleRefusal (a .0) (length (a .1 .0 .now)) (a .1 .1 .0) (a .1 .1 .1 .0 .action) ≡ 0
       → _≡_ {A = Outcome} (record { cells = s .1 .0 .now; reply = x })
-      (actedOf (rowOf (a .0)) (settledOf (rowOf (a .0)) (a .1 .0 .now) (a .1 .1 .0) (a .1 .1 .1 .0 .elapsed)) (a .1 .1 .1 .0 .wp) (a .1 .1 .1 .0 .action))
+      (actedOf (rowOf (a .0)) (passed (rowOf (a .0)) (chip (a .1 .0 .now) (a .1 .1 .0)) (a .1 .1 .1 .0 .elapsed)) (a .1 .1 .1 .0 .wp) (a .1 .1 .1 .0 .action))
   unfolding cycleOf acceptedOf
   cycle-acts accepted =
       rw (promise .0, promise .1, eq-eqb (cycleRefusal (a .0) (length (a .1 .0 .now)) (a .1 .1 .0) (a .1 .1 .1 .0 .action)) 0 accepted)
@@ -85,7 +84,7 @@ module _ (κs : Lfts 0) (a : Dens κs writes-kinds.ps) (x : resT writes-kinds.r 
   -- and they start that operation and no other.
   pub writes-begin : commandRefusal part command address word ≡ 0
       → (cells : List ℕ) → length cells ≡ rowOf part .cells → (d : Device) → idle d ≡ true → (wp : Bool) → ignored (rowOf part) wp command address ≡ false
-      → (play part (chip cells d) (writeCycles wp (take (x .count) (x .writes))) ≡ chip cells (device ReadMode 0 (operationOf (rowOf part) command address word)))
+      → (play part (chip cells d) (writeCycles wp (take (x .count) (x .writes))) ≡ chip cells (device (busyWith (d .core) (operationOf (rowOf part) command address word)) 0))
       × (startedIn part (chip cells d) (writeCycles wp (take (x .count) (x .writes))) ≡ operationOf (rowOf part) command address word ∷ [])
   writes-begin accepted cells whole d rests wp heeded =
       rw (promise, places-are part command address word accepted) (writes-start part command address word wp cells d accepted whole rests heeded)

@@ -156,7 +156,7 @@ sameBool false b = not b
 abbrev pub asSaid : Case → Ran → Bool
 asSaid k r =
     pick (r .accepted)
-    (pick (sameList (r .reads) (k .reads)) (pick (holdsAll (r .chip .cells) (k .cells)) (sameBool (busy (r .chip .device)) (k .pending)) false) false)
+    (pick (sameList (r .reads) (k .reads)) (pick (holdsAll (r .chip .cells) (k .cells)) (sameBool (busy (r .chip .device .core)) (k .pending)) false) false)
     false
 
 -- the cells before

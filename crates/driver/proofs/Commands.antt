@@ -5,7 +5,7 @@ use mathlib.Core.Bool.{Bool, true, false}
 use mathlib.Core.List.{List, [], _∷_, _++_}
 use native.Mathlib.Nat.{mod-eq-of-lt}
 use native.Mathlib.Omega.{arith}
-use borrow.Author.Tests.{ltb-false, lt-ltb, le-ltb, eq-eqb, ne-eqb}
+use borrow.Author.Tests.{ltb-false, eq-eqb, ne-eqb}
 use lib.Dec.{eqb, ltb}
 use lib.ListN.{length}
 use lib.Pow.{pow-mono}
@@ -13,38 +13,25 @@ use Rattle.parts.specs.Pick.{pick}
 use Rattle.parts.specs.Width.{fitsIn}
 use Rattle.parts.specs.Table.{rowOf, partRefusal}
 use Rattle.parts.specs.Span.{hasBlocks}
-use Rattle.parts.specs.Time.{hasCommand, timeOf}
+use Rattle.parts.specs.Time.{hasCommand}
 use Rattle.parts.specs.declared.table.Row.{Row}
 use Rattle.parts.proofs.Every.{unless, split}
 use Rattle.parts.proofs.Values.{lt-fits}
-use Rattle.parts.proofs.Sound.{width-least, time-some, codes-differ, sector-not-chip, block-not-chip, sector-byte, block-byte, u1-compared, u2-compared, compared-cells}
-use Rattle.chip.specs.declared.device.Mode.{Mode}
-use Rattle.chip.specs.declared.device.Mode.the-variants.{ReadMode}
+use Rattle.parts.proofs.Sound.{width-least, codes-differ, sector-not-chip, block-not-chip, sector-byte, block-byte, u1-compared, u2-compared, compared-cells}
 use Rattle.chip.specs.declared.device.Operation.{Operation}
-use Rattle.chip.specs.declared.device.Device.{Device}
+use Rattle.chip.specs.declared.device.Core.{Core}
 use Rattle.chip.specs.declared.sequence.Effect.the-variants.{Goes, Starts}
 use Rattle.chip.specs.declared.cycle.Action.the-variants.{Write as Writes}
 use Rattle.chip.specs.declared.cycle.Cycle.{Cycle}
-use Rattle.chip.specs.Device.{operation, device, busy, inRange, idle}
-use Rattle.chip.specs.Sequence.{effectOf, ignored, started, writtenOf}
-use Rattle.chip.specs.Cycle.{Chip, chip, actionRefusal}
+use Rattle.chip.specs.Device.{busyWith, busy, device}
+use Rattle.chip.specs.Sequence.{effectOf, ignored, newOperation}
+use Rattle.chip.specs.Cycle.{Chip, chip}
 use Rattle.chip.specs.Trace.{after, play, startedBy, startedIn}
-use Rattle.chip.proofs.Accepted.{accepting, read-mode}
-use Rattle.chip.proofs.Cases.{rests, write-rest}
+use Rattle.chip.proofs.Cases.{write-leaves, write-starts}
 use Rattle.driver.specs.declared.writes.Write.{Write}
 use Rattle.driver.specs.Writes.{lastWrite, writesOf}
 use Rattle.driver.specs.Talk.{cycle, writeCycle, writeCycles, operationOf}
 use Rattle.driver.proofs.Asked.{Target}
-
-pub idle-is : (d : Device) → idle d ≡ true → (d ≡ device ReadMode 0 (d .running)) × (ltb 0 (d .running .left) ≡ false)
-unfolding idle
-idle-is d e =
-    let f = unless (busy d) _ e in
-    let g = unless (ltb 0 (d .stage)) _ (f .1) in
-    (ap₂ {A = Mode} {B = ℕ} {C = Device} (λ m s. device m s (d .running)) (read-mode (d .mode) (g .1)) (zero-stage (ltb-false 0 (d .stage) (g .0))), f .0)
-  where
-    zero-stage : d .stage ≤ 0 → d .stage ≡ 0
-    zero-stage h = omega arith
 
 -- the commands of a part are four
 pub command-le : (r : Row) (command : ℕ) → hasCommand r command ≡ true → command ≤ 3
@@ -170,53 +157,37 @@ then {part} {h} {h₁} {h₂} {c} {cs} m l =
     }
 
 -- ---- on the lent cells of a known part, with nothing running
-module _ (part : ℕ) (known : partRefusal part ≡ 0) (cells : List ℕ) (whole : length cells ≡ rowOf part .cells) (wp : Bool) (o : Operation) (rest : ltb 0 (o .left) ≡ false) where
-  abbrev stageOf : ℕ → Device
-  stageOf s = device ReadMode s o
-
-  stage-range : (s : ℕ) → s ≤ 6 → inRange (rowOf part) (stageOf s) ≡ true
-  unfolding inRange
-  stage-range s h = simp (le-ltb 6 s h, rest)
-
+module _ (part : ℕ) (known : partRefusal part ≡ 0) (cells : List ℕ) (whole : length cells ≡ rowOf part .cells) (wp : Bool) (k : Core) (rest : busy k ≡ false) where
   module _ (s : ℕ) (le : s ≤ 6) (a x : ℕ) (there : a < rowOf part .cells) (fits : fitsIn (rowOf part .width) x ≡ true) where
-    write-left : after part (chip cells (stageOf s)) (cycle 0 wp (Writes a x)) ≡ chip cells (writtenOf (rowOf part) (stageOf s) wp a x)
-    unfolding after
-    write-left = rw (write-rest part cells known whole a there (stageOf s) 0 wp x (stage-range s le) rest fits)
-
-    write-starts : startedBy part (chip cells (stageOf s)) (cycle 0 wp (Writes a x))
-        ≡ pick (busy (writtenOf (rowOf part) (stageOf s) wp a x)) (writtenOf (rowOf part) (stageOf s) wp a x .running ∷ []) []
-    unfolding startedBy actionRefusal
-    write-starts =
-        rw (
-          accepting part (length cells) (stageOf s) (Writes a x) (record { known = known; whole = whole; state = stage-range s le; reach = simp (lt-ltb a (rowOf part .cells) there, fits) }),
-          rests (rowOf part) cells (stageOf s) 0 rest,
-          rest,
-          write-left,
-        )
-
     -- a write that takes the sequence on
-    on : (s′ : ℕ) → effectOf (rowOf part) s a x ≡ Goes s′ → Moves part (chip cells (stageOf s)) (cycle 0 wp (Writes a x)) (chip cells (stageOf s′)) []
-    unfolding writtenOf
-    on s′ e = record { left = write-left ∙ rw e; starts = write-starts ∙ rw (e, rest) }
+    on : (s′ : ℕ) → effectOf (rowOf part) s a x ≡ Goes s′ → Moves part (chip cells (device k s)) (cycle 0 wp (Writes a x)) (chip cells (device k s′)) []
+    on s′ e =
+        record {
+          left = write-leaves part cells known whole a there k s 0 wp x rest le fits ∙ rw e;
+          starts = write-starts part cells known whole a there k s 0 wp x rest le fits ∙ rw e;
+        }
 
     -- a write that starts an operation
-    starts-it : (k : ℕ) → effectOf (rowOf part) s a x ≡ Starts k → ignored (rowOf part) wp k a ≡ false → k ≤ 3
-        → Moves part (chip cells (stageOf s)) (cycle 0 wp (Writes a x)) (chip cells (started (rowOf part) k a x)) (operation k a x (timeOf (rowOf part) k) true ∷ [])
-    unfolding writtenOf
-    starts-it k e i h = record { left = write-left ∙ rw (e, i); starts = write-starts ∙ rw (e, i, lt-ltb 0 (timeOf (rowOf part) k) (time-some part known k h)) }
+    starts-it : (c : ℕ) → effectOf (rowOf part) s a x ≡ Starts c → ignored (rowOf part) wp c a ≡ false
+        → Moves part (chip cells (device k s)) (cycle 0 wp (Writes a x)) (chip cells (device (busyWith k (newOperation (rowOf part) c a x)) 0)) (newOperation (rowOf part) c a x ∷ [])
+    starts-it c e i =
+        record {
+          left = write-leaves part cells known whole a there k s 0 wp x rest le fits ∙ rw (e, i);
+          starts = write-starts part cells known whole a there k s 0 wp x rest le fits ∙ rw (e, i);
+        }
 
   -- a byte at U1, and at U2
   at-u1 : (s x s′ : ℕ) → s ≤ 6 → x < 256 → effectOf (rowOf part) s (rowOf part .u1) x ≡ Goes s′
-      → Moves part (chip cells (stageOf s)) (cycle 0 wp (Writes (rowOf part .u1) x)) (chip cells (stageOf s′)) []
+      → Moves part (chip cells (device k s)) (cycle 0 wp (Writes (rowOf part .u1) x)) (chip cells (device k s′)) []
   at-u1 s x s′ h b e = on s h (rowOf part .u1) x (u1-there part known) (byte-fits part known x b) s′ e
 
   at-u2 : (s x s′ : ℕ) → s ≤ 6 → x < 256 → effectOf (rowOf part) s (rowOf part .u2) x ≡ Goes s′
-      → Moves part (chip cells (stageOf s)) (cycle 0 wp (Writes (rowOf part .u2) x)) (chip cells (stageOf s′)) []
+      → Moves part (chip cells (device k s)) (cycle 0 wp (Writes (rowOf part .u2) x)) (chip cells (device k s′)) []
   at-u2 s x s′ h b e = on s h (rowOf part .u2) x (u2-there part known) (byte-fits part known x b) s′ e
 
   -- a command's writes leave the cells, and start its operation and no other
   pub command-leads : (command a x : ℕ) → Target (rowOf part) command a x → ignored (rowOf part) wp command a ≡ false
-      → Leads part (chip cells (device ReadMode 0 o)) (writeCycles wp (writesOf (rowOf part) command a x)) (chip cells (device ReadMode 0 (operationOf (rowOf part) command a x))) (operationOf (rowOf part) command a x ∷ [])
+      → Leads part (chip cells (device k 0)) (writeCycles wp (writesOf (rowOf part) command a x)) (chip cells (device (busyWith k (operationOf (rowOf part) command a x)) 0)) (operationOf (rowOf part) command a x ∷ [])
   unfolding writesOf
   command-leads command a x target i =
       split Leading (eqb command 0) _ _
@@ -235,12 +206,12 @@ module _ (part : ℕ) (known : partRefusal part ≡ 0) (cells : List ℕ) (whole
       w = lastWrite (rowOf part) command a x
 
       Leading : List Write → Type 0
-      Leading ws = Leads part (chip cells (device ReadMode 0 o)) (writeCycles wp ws) (chip cells (device ReadMode 0 (operationOf (rowOf part) command a x))) (operationOf (rowOf part) command a x ∷ [])
+      Leading ws = Leads part (chip cells (device k 0)) (writeCycles wp ws) (chip cells (device (busyWith k (operationOf (rowOf part) command a x)) 0)) (operationOf (rowOf part) command a x ∷ [])
 
       starting : effectOf (rowOf part) (pick (eqb command 0) 3 6) (w .address) (w .«data») ≡ Starts command
       starting = last-starts part known command a x (target .has)
 
       last : (s : ℕ) → s ≤ 6 → effectOf (rowOf part) s (w .address) (w .«data») ≡ Starts command
-          → Moves part (chip cells (stageOf s)) (writeCycle wp w) (chip cells (device ReadMode 0 (operationOf (rowOf part) command a x))) (operationOf (rowOf part) command a x ∷ [])
+          → Moves part (chip cells (device k s)) (writeCycle wp w) (chip cells (device (busyWith k (operationOf (rowOf part) command a x)) 0)) (operationOf (rowOf part) command a x ∷ [])
       last s h e =
-          starts-it s h (w .address) (w .«data») (last-there part known command a x target) (last-fits part known command a x target) command e (last-heeded part known command a x target wp i) (few part known command a x target)
+          starts-it s h (w .address) (w .«data») (last-there part known command a x target) (last-fits part known command a x target) command e (last-heeded part known command a x target wp i)

@@ -18,20 +18,21 @@ use Rattle.parts.proofs.Every.{split}
 use Rattle.parts.proofs.Values.{value-value}
 use Rattle.parts.proofs.Sound.{cells-some, time-some}
 use Rattle.parts.proofs.Rounding.{reaches, below, positive}
-use Rattle.chip.specs.declared.device.Mode.the-variants.{ReadMode}
 use Rattle.chip.specs.declared.device.Operation.{Operation}
+use Rattle.chip.specs.declared.device.Core.{Core}
 use Rattle.chip.specs.declared.device.Device.{Device}
 use Rattle.chip.specs.declared.cycle.Action.{Action}
 use Rattle.chip.specs.declared.cycle.Action.the-variants.{Read}
 use Rattle.chip.specs.declared.cycle.Cycle.{Cycle}
-use Rattle.chip.specs.Device.{operation, device, freshDevice, busy, idle, inRange as deviceInRange}
+use Rattle.chip.specs.Device.{operation, busyWith, atRest, busy, device, coreIdle}
 use Rattle.chip.specs.Operation.{cellsOf, completeOn}
 use Rattle.chip.specs.Sequence.{ignored}
 use Rattle.chip.specs.Cycle.{Chip, chip, Outcome, outcome, cycleOf, status, bit6}
 use Rattle.chip.specs.Trace.{leaves, after, play, startedBy, startedIn}
 use Rattle.chip.proofs.Accepted.{Valid, within-cells}
 use Rattle.chip.proofs.Settled.{complete-length}
-use Rattle.chip.proofs.Cases.{read-rest, read-busy, read-done}
+use Rattle.chip.proofs.Idle.{idle-rests, idle-again}
+use Rattle.chip.proofs.Cases.{read-idle, read-busy, read-done}
 use Rattle.driver.specs.declared.writes.Write.{Write}
 use Rattle.driver.specs.declared.machine.Phase.{Phase}
 use Rattle.driver.specs.declared.machine.Phase.the-variants.{Writing, Polling, Confirming, Done, GaveUp, Differs}
@@ -47,7 +48,7 @@ use Rattle.driver.specs.Reads.{Due, Scans, Polls, Confirms, begins, pass
 use Rattle.driver.proofs.Asked.{Begun, begun}
 use Rattle.driver.proofs.Ready.{write-count-some}
 use Rattle.driver.proofs.Steps.{goes, most}
-use Rattle.driver.proofs.Commands.{idle-is, command-le, last-there, last-fits, command-leads}
+use Rattle.driver.proofs.Commands.{command-le, last-there, last-fits, command-leads}
 
 -- cycles in front of a talk
 abbrev pub sent : List Cycle → Told → Told
@@ -105,7 +106,7 @@ module _ (part : ℕ) (wp : Bool) where
 -- ---- cycles by their places
 -- a read that leaves the chip h′
 read-placed : (part : ℕ) (u : Due) (h : Chip) (e : ℕ) (wp : Bool) (a : ℕ) (cs : List Cycle) (o : Outcome) → cycleOf part (h .cells) (h .device) (cycle e wp (Read a)) ≡ o
-    → placesIn part u h (cycle e wp (Read a) ∷ cs) ≡ ARead u ∷ placesIn part (passes u (busy (o .reply .device))) (leaves o) cs
+    → placesIn part u h (cycle e wp (Read a) ∷ cs) ≡ ARead u ∷ placesIn part (passes u (busy (o .reply .device .core))) (leaves o) cs
 unfolding after
 read-placed part u h e wp a cs o q = rw q
 
@@ -196,17 +197,6 @@ module _ (b : Driver) (accepted : startRefusal (b .part) (b .command) (b .addres
   running l t =
       operation (b .command) (lastWrite r (b .command) (b .address) (b .«data») .address) (lastWrite r (b .command) (b .address) (b .«data») .«data») l t
 
-  running-valid : (l : ℕ) (t : Bool) → l ≤ timeOf r (b .command) → Valid r (device ReadMode 0 (running l t))
-  running-valid l t h =
-      record {
-        command = valid .asked .target .has;
-        time = h;
-        there = last-there (b .part) known (b .command) (b .address) (b .«data») (valid .asked .target);
-        fits = last-fits (b .part) known (b .command) (b .address) (b .«data») (valid .asked .target);
-        stage = refl;
-        mode = refl;
-      }
-
   at-there : at < r .cells
   at-there =
       split (λ (n : ℕ). n < r .cells) (eqb (b .command) 3) 0 (b .address) (λ _. cells-some (b .part) known) (λ n. valid .asked .target .there (eqb-false (b .command) 3 n))
@@ -225,15 +215,31 @@ module _ (b : Driver) (accepted : startRefusal (b .part) (b .command) (b .addres
       by false ws e = omega (arith, six)
 
   -- the cells once it has completed, and what a read at the address shows then
-  module _ (cells : List ℕ) (whole : length cells ≡ r .cells) where
+  module _ (cells : List ℕ) (whole : length cells ≡ r .cells) (core : Core) (idles : coreIdle core ≡ true) where
     abbrev done : List ℕ
     done = completeOn r (operationOf r (b .command) (b .address) (b .«data»)) cells
 
     abbrev shown : ℕ
     shown = valueOf (r .width) (getD done at 0)
 
+    abbrev finished : Core
+    finished = atRest (busyWith core (operationOf r (b .command) (b .address) (b .«data»)))
+
     abbrev rested : Chip
-    rested = chip done freshDevice
+    rested = chip done (device finished 0)
+
+    abbrev busyAt : ℕ → Bool → Device
+    busyAt l t = device (busyWith core (running l t)) 0
+
+    running-valid : (l : ℕ) (t : Bool) → l ≤ timeOf r (b .command) → Valid r (busyWith core (running l t))
+    running-valid l t h =
+        record {
+          command = valid .asked .target .has;
+          time = h;
+          there = last-there (b .part) known (b .command) (b .address) (b .«data») (valid .asked .target);
+          fits = last-fits (b .part) known (b .command) (b .address) (b .«data») (valid .asked .target);
+          mode = refl;
+        }
 
     -- what completes does not hang on the time left, nor on bit 6
     same-done : (l : ℕ) (t : Bool) → completeOn r (running l t) cells ≡ done
@@ -241,27 +247,27 @@ module _ (b : Driver) (accepted : startRefusal (b .part) (b .command) (b .addres
     same-done l t = refl
 
     waiting : (l q n : ℕ) (t : Bool) → b .p < l → l ≤ timeOf r (b .command) → q + 1 < most b
-        → talk (b .part) wp (suc n) (polls (moved b Polling q)) (chip cells (device ReadMode 0 (running l t)))
-        ≡ led poll (talk (b .part) wp n (polls (moved b Polling (q + 1))) (chip cells (device ReadMode 0 (running (l - b .p) (not t)))))
+        → talk (b .part) wp (suc n) (polls (moved b Polling q)) (chip cells (busyAt l t))
+        ≡ led poll (talk (b .part) wp n (polls (moved b Polling (q + 1))) (chip cells (busyAt (l - b .p) (not t))))
     unfolding pollingOf matches
     waiting l q n t early most-time more =
-        sends (b .part) wp n 0 (b .p) (q + 1) (moved b Polling (q + 1)) (Read at) (chip cells (device ReadMode 0 (running l t))) _
-        (read-busy (b .part) cells known whole at at-there (running l t) (b .p) wp (running-valid l t most-time) early)
-        ∙ ap (λ (s : Step). led poll (talk (b .part) wp n s (chip cells (device ReadMode 0 (running (l - b .p) (not t))))))
+        sends (b .part) wp n 0 (b .p) (q + 1) (moved b Polling (q + 1)) (Read at) (chip cells (busyAt l t)) _
+        (read-busy (b .part) cells known whole at at-there (busyWith core (running l t)) (b .p) wp (running-valid l t most-time) early)
+        ∙ ap (λ (s : Step). led poll (talk (b .part) wp n s (chip cells (busyAt (l - b .p) (not t)))))
         (takes Polling (q + 1) (status (running l t)) (le-leb (q + 1) (most b) (omega arith))
         ∙ rw (lt-ltb 0 (q + 1) (omega arith), ne-eqb (bitSeven (status (running l t))) (bitWanted (b .command) (b .«data»)) (busy-differs l t), lt-ltb (q + 1) (most b) more))
 
     completing : (l q n : ℕ) (t : Bool) → 0 < l → l ≤ b .p → l ≤ timeOf r (b .command)
-        → talk (b .part) wp (suc n) (polls (moved b Polling q)) (chip cells (device ReadMode 0 (running l t)))
+        → talk (b .part) wp (suc n) (polls (moved b Polling q)) (chip cells (busyAt l t))
         ≡ led poll (talk (b .part) wp n (stepOf (moved b Polling (q + 1)) shown) rested)
     completing l q n t some late most-time =
-        sends (b .part) wp n 0 (b .p) (q + 1) (moved b Polling (q + 1)) (Read at) (chip cells (device ReadMode 0 (running l t))) _
-        (read-done (b .part) cells known whole at at-there (running l t) (b .p) wp (running-valid l t most-time) some late)
-        ∙ ap (λ (xs : List ℕ). led poll (talk (b .part) wp n (stepOf (moved b Polling (q + 1)) (valueOf (r .width) (getD xs at 0))) (chip xs freshDevice))) (same-done l t)
+        sends (b .part) wp n 0 (b .p) (q + 1) (moved b Polling (q + 1)) (Read at) (chip cells (busyAt l t)) _
+        (read-done (b .part) cells known whole at at-there (busyWith core (running l t)) (b .p) wp (running-valid l t most-time) some late)
+        ∙ ap (λ (xs : List ℕ). led poll (talk (b .part) wp n (stepOf (moved b Polling (q + 1)) (valueOf (r .width) (getD xs at 0))) (chip xs (device finished 0)))) (same-done l t)
 
     -- k polls come too early, and one more does not
     polling : (k l q n m : ℕ) (t : Bool) → k * b .p < l → l ≤ suc k * b .p → l ≤ timeOf r (b .command) → q + suc k ≤ most b → n ≡ suc k + m
-        → talk (b .part) wp n (polls (moved b Polling q)) (chip cells (device ReadMode 0 (running l t)))
+        → talk (b .part) wp n (polls (moved b Polling q)) (chip cells (busyAt l t))
         ≡ sent (replicate (suc k) poll) (talk (b .part) wp m (stepOf (moved b Polling (q + suc k)) shown) rested)
     polling k l q zero m t early enough most-time within fuel = absurd (omega arith)
     polling zero l q (suc n) m t early enough most-time within fuel =
@@ -279,7 +285,7 @@ module _ (b : Driver) (accepted : startRefusal (b .part) (b .command) (b .addres
     turns = pollsOf r (b .command) (b .p)
 
     all-polls : (n m : ℕ) → n ≡ turns + m
-        → talk (b .part) wp n (polls (moved b Polling 0)) (chip cells (device ReadMode 0 (operationOf r (b .command) (b .address) (b .«data»))))
+        → talk (b .part) wp n (polls (moved b Polling 0)) (chip cells (device (busyWith core (operationOf r (b .command) (b .address) (b .«data»))) 0))
         ≡ sent (replicate turns poll) (talk (b .part) wp m (stepOf (moved b Polling turns) shown) rested)
     unfolding mostPolls
     all-polls n m fuel = by turns refl
@@ -288,7 +294,7 @@ module _ (b : Driver) (accepted : startRefusal (b .part) (b .command) (b .addres
         T = timeOf r (b .command)
 
         by : (k : ℕ) → turns ≡ k
-            → talk (b .part) wp n (polls (moved b Polling 0)) (chip cells (device ReadMode 0 (operationOf r (b .command) (b .address) (b .«data»))))
+            → talk (b .part) wp n (polls (moved b Polling 0)) (chip cells (device (busyWith core (operationOf r (b .command) (b .address) (b .«data»))) 0))
             ≡ sent (replicate turns poll) (talk (b .part) wp m (stepOf (moved b Polling turns) shown) rested)
         by zero e = absurd (omega (arith, positive T (b .p) (valid .some) some-time))
         by (suc k) e =
@@ -305,32 +311,31 @@ module _ (b : Driver) (accepted : startRefusal (b .part) (b .command) (b .addres
         complete-length r o cells (rw whole (within-cells (b .part) known o (valid .asked .target .has) there)) ∙ whole
 
     -- a read at rest shows the value
-    reads : (e : ℕ) → cycleOf (b .part) done freshDevice (cycle e wp (Read at)) ≡ outcome done shown freshDevice
-    unfolding deviceInRange
-    reads e = read-rest (b .part) done known done-whole at at-there freshDevice e wp refl refl refl
+    reads : (e : ℕ) → cycleOf (b .part) done (device finished 0) (cycle e wp (Read at)) ≡ outcome done shown (device finished 0)
+    reads e = read-idle (b .part) done known done-whole at at-there finished e wp (idle-again core idles (operationOf r (b .command) (b .address) (b .«data»)))
 
     -- ---- the same by their places, whatever follows
     polling-placed : (k l : ℕ) (t : Bool) (cs : List Cycle) → k * b .p < l → l ≤ suc k * b .p → l ≤ timeOf r (b .command)
-        → placesIn (b .part) Polls (chip cells (device ReadMode 0 (running l t))) (replicate (suc k) poll ++ cs) ≡ replicate (suc k) (ARead Polls) ++ placesIn (b .part) Confirms rested cs
+        → placesIn (b .part) Polls (chip cells (busyAt l t)) (replicate (suc k) poll ++ cs) ≡ replicate (suc k) (ARead Polls) ++ placesIn (b .part) Confirms rested cs
     polling-placed zero l t cs early enough most-time =
-        read-placed (b .part) Polls (chip cells (device ReadMode 0 (running l t))) (b .p) wp at cs _
-        (read-done (b .part) cells known whole at at-there (running l t) (b .p) wp (running-valid l t most-time) (omega (arith, zero-mul (b .p))) (omega (arith, one-mul (b .p))))
-        ∙ ap (λ (xs : List ℕ). ARead Polls ∷ placesIn (b .part) Confirms (chip xs freshDevice) cs) (same-done l t)
+        read-placed (b .part) Polls (chip cells (busyAt l t)) (b .p) wp at cs _
+        (read-done (b .part) cells known whole at at-there (busyWith core (running l t)) (b .p) wp (running-valid l t most-time) (omega (arith, zero-mul (b .p))) (omega (arith, one-mul (b .p))))
+        ∙ ap (λ (xs : List ℕ). ARead Polls ∷ placesIn (b .part) Confirms (chip xs (device finished 0)) cs) (same-done l t)
     polling-placed (suc k) l t cs early enough most-time =
         let e : suc k * b .p ≡ k * b .p + b .p = suc-mul k (b .p) in
         let e′ : suc (suc k) * b .p ≡ suc k * b .p + b .p = suc-mul (suc k) (b .p) in
-        read-placed (b .part) Polls (chip cells (device ReadMode 0 (running l t))) (b .p) wp at (replicate (suc k) poll ++ cs) _
-        (read-busy (b .part) cells known whole at at-there (running l t) (b .p) wp (running-valid l t most-time) (omega arith))
+        read-placed (b .part) Polls (chip cells (busyAt l t)) (b .p) wp at (replicate (suc k) poll ++ cs) _
+        (read-busy (b .part) cells known whole at at-there (busyWith core (running l t)) (b .p) wp (running-valid l t most-time) (omega arith))
         ∙ rw (lt-ltb 0 (l - b .p) (omega arith)) (ap (λ (ps : List Place). ARead Polls ∷ ps) (polling-placed k (l - b .p) (not t) cs (omega arith) (omega arith) (omega arith)))
 
-    polls-placed : (cs : List Cycle) → placesIn (b .part) Polls (chip cells (device ReadMode 0 (operationOf r (b .command) (b .address) (b .«data»)))) (replicate turns poll ++ cs)
+    polls-placed : (cs : List Cycle) → placesIn (b .part) Polls (chip cells (device (busyWith core (operationOf r (b .command) (b .address) (b .«data»))) 0)) (replicate turns poll ++ cs)
         ≡ replicate turns (ARead Polls) ++ placesIn (b .part) Confirms rested cs
     polls-placed cs = by turns refl
       where
         T : ℕ
         T = timeOf r (b .command)
 
-        by : (k : ℕ) → turns ≡ k → placesIn (b .part) Polls (chip cells (device ReadMode 0 (operationOf r (b .command) (b .address) (b .«data»)))) (replicate turns poll ++ cs)
+        by : (k : ℕ) → turns ≡ k → placesIn (b .part) Polls (chip cells (device (busyWith core (operationOf r (b .command) (b .address) (b .«data»))) 0)) (replicate turns poll ++ cs)
             ≡ replicate turns (ARead Polls) ++ placesIn (b .part) Confirms rested cs
         by zero e = absurd (omega (arith, positive T (b .p) (valid .some) some-time))
         by (suc k) e =
@@ -375,39 +380,33 @@ module _ (b : Driver) (accepted : startRefusal (b .part) (b .command) (b .addres
         ∙ (sends (b .part) wp n 0 (b .p) (q + 1) (moved b Polling (q + 1)) (Read at) rested _ (reads (b .p))
         ∙ ap (led poll) (giving-up j (q + 1) n (omega arith) (omega arith) (omega arith) miss))
 
-    -- ---- from an idle device, at a WP# level that does not protect
-    module _ (d : Device) (rest : idle d ≡ true) (heeded : ignored r wp (b .command) (b .address) ≡ false) where
-      played : play (b .part) (chip cells d) writeList ≡ chip cells (device ReadMode 0 (operationOf r (b .command) (b .address) (b .«data»)))
-      played =
-          let w = idle-is d rest in
-          ap (λ (d : Device). play (b .part) (chip cells d) writeList) (w .0)
-          ∙ command-leads (b .part) known cells whole wp (d .running) (w .1) (b .command) (b .address) (b .«data») (valid .asked .target) heeded .played
+    -- ---- from an idle core, at a WP# level that does not protect
+    module _ (heeded : ignored r wp (b .command) (b .address) ≡ false) where
+      played : play (b .part) (chip cells (device core 0)) writeList ≡ chip cells (device (busyWith core (operationOf r (b .command) (b .address) (b .«data»))) 0)
+      played = command-leads (b .part) known cells whole wp core (idle-rests core idles) (b .command) (b .address) (b .«data») (valid .asked .target) heeded .played
 
-      started : startedIn (b .part) (chip cells d) writeList ≡ operationOf r (b .command) (b .address) (b .«data») ∷ []
-      started =
-          let w = idle-is d rest in
-          ap (λ (d : Device). startedIn (b .part) (chip cells d) writeList) (w .0)
-          ∙ command-leads (b .part) known cells whole wp (d .running) (w .1) (b .command) (b .address) (b .«data») (valid .asked .target) heeded .begun
+      starting : startedIn (b .part) (chip cells (device core 0)) writeList ≡ operationOf r (b .command) (b .address) (b .«data») ∷ []
+      starting = command-leads (b .part) known cells whole wp core (idle-rests core idles) (b .command) (b .address) (b .«data») (valid .asked .target) heeded .begun
 
       -- all of its cycles by their places: no reads, N polls, the confirming read
-      pub placed : (cs : List Cycle) → placesIn (b .part) Scans (chip cells d) (writeList ++ (replicate turns poll ++ (cycle confirmAfter wp (Read at) ∷ cs)))
+      pub placed : (cs : List Cycle) → placesIn (b .part) Scans (chip cells (device core 0)) (writeList ++ (replicate turns poll ++ (cycle confirmAfter wp (Read at) ∷ cs)))
           ≡ replicate (writeCount (b .command)) NoRead ++ (replicate turns (ARead Polls) ++ (ARead Confirms ∷ placesIn (b .part) Scans rested cs))
       placed cs =
-          writes-placed (b .part) Scans (chip cells d) wp (writesOf r (b .command) (b .address) (b .«data»)) (replicate turns poll ++ (cycle confirmAfter wp (Read at) ∷ cs))
-          ∙ rw (started, played, write-length r (b .command) (b .address) (b .«data»), polls-placed (cycle confirmAfter wp (Read at) ∷ cs), confirm-placed cs)
+          writes-placed (b .part) Scans (chip cells (device core 0)) wp (writesOf r (b .command) (b .address) (b .«data»)) (replicate turns poll ++ (cycle confirmAfter wp (Read at) ∷ cs))
+          ∙ rw (starting, played, write-length r (b .command) (b .address) (b .«data»), polls-placed (cycle confirmAfter wp (Read at) ∷ cs), confirm-placed cs)
 
       -- the writes, and N polls
       opening : (n m read : ℕ) → n ≡ writeCount (b .command) + (turns + m)
-          → talk (b .part) wp n (stepOf (moved b Writing 0) read) (chip cells d)
+          → talk (b .part) wp n (stepOf (moved b Writing 0) read) (chip cells (device core 0))
           ≡ sent writeList (sent (replicate turns poll) (talk (b .part) wp m (stepOf (moved b Polling turns) shown) rested))
       unfolding driverAt
       opening n m read fuel =
           let z : 0 + writeCount (b .command) ≡ writeCount (b .command) = omega arith in
-          (rw (lt-ltb 0 (writeCount (b .command)) (omega (arith, write-count-some (b .command)))) at (writes-talk (writeCount (b .command)) 0 n (turns + m) read (chip cells d) z fuel))
+          (rw (lt-ltb 0 (writeCount (b .command)) (omega (arith, write-count-some (b .command)))) at (writes-talk (writeCount (b .command)) 0 n (turns + m) read (chip cells (device core 0)) z fuel))
           ∙ ap (sent writeList) (rw played (all-polls (turns + m) m refl))
 
       pub performs : (n read : ℕ) → writeCount (b .command) + turns + 1 ≤ n → eqb (bitSeven shown) (bitWanted (b .command) (b .«data»)) ≡ true
-          → talk (b .part) wp n (stepOf (moved b Writing 0) read) (chip cells d)
+          → talk (b .part) wp n (stepOf (moved b Writing 0) read) (chip cells (device core 0))
           ≡ told (writeList ++ (replicate turns poll ++ (cycle confirmAfter wp (Read at) ∷ []))) rested
           (ended (moved b Polling turns) (pick (eqb shown (valueWanted r (b .command) (b .«data»))) Done Differs))
       unfolding mostPolls
@@ -417,7 +416,7 @@ module _ (b : Driver) (accepted : startRefusal (b .part) (b .command) (b .addres
           ∙ ap (λ (t : Told). sent writeList (sent (replicate turns poll) t)) (confirming turns m (positive (timeOf r (b .command)) (b .p) (valid .some) some-time) (omega arith) hit)
 
       pub gives-up : (n read : ℕ) → writeCount (b .command) + turns * 2 ≤ n → eqb (bitSeven shown) (bitWanted (b .command) (b .«data»)) ≡ false
-          → talk (b .part) wp n (stepOf (moved b Writing 0) read) (chip cells d)
+          → talk (b .part) wp n (stepOf (moved b Writing 0) read) (chip cells (device core 0))
           ≡ told (writeList ++ replicate (turns * 2) poll) rested (ended (moved b Polling (turns * 2)) GaveUp)
       unfolding mostPolls
       gives-up n read enough miss =

@@ -13,11 +13,10 @@ use Rattle.parts.specs.Width.{valueOf}
 use Rattle.parts.specs.Table.{rowOf}
 use Rattle.parts.specs.Time.{pollsOf}
 use Rattle.parts.specs.declared.table.Row.{Row}
-use Rattle.chip.specs.declared.device.Mode.the-variants.{ReadMode}
 use Rattle.chip.specs.declared.device.Device.{Device}
 use Rattle.chip.specs.declared.cycle.Action.the-variants.{Read}
 use Rattle.chip.specs.declared.cycle.Cycle.{Cycle}
-use Rattle.chip.specs.Device.{device, freshDevice, idle}
+use Rattle.chip.specs.Device.{busyWith, device, freshDevice, coreIdle, idle}
 use Rattle.chip.specs.Sequence.{ignored}
 use Rattle.chip.specs.Cycle.{Chip, chip}
 use Rattle.chip.specs.Trace.{play, startedIn}
@@ -35,7 +34,8 @@ use Rattle.driver.proofs.Asked as Asked
 use Rattle.driver.proofs.Steps.{most, Kept, kept, few-polls, falls, asks-on, final-polls, final-writing}
 use Rattle.driver.proofs.Named.{namedIn, namedBy, names, asCycle, cycles-are, cycles-few}
 use Rattle.driver.proofs.Within.{over, stands}
-use Rattle.driver.proofs.Commands.{idle-is, command-leads}
+use Rattle.chip.proofs.Idle.{idle-is, idle-rests}
+use Rattle.driver.proofs.Commands.{command-leads}
 use Rattle.driver.proofs.Begins.{started, few-commands, kept-accepted, start-range, kept-address, kept-bit, kept-value, kept-last, kept-writes, kept-heeded}
 use Rattle.driver.proofs.Talks as Talks
 use Rattle.driver.proofs.Shown as Shown
@@ -48,13 +48,13 @@ pub writes-start : (part command address word : ℕ) (wp : Bool) (cells : List �
     → length cells ≡ rowOf part .cells
     → idle d ≡ true
     → ignored (rowOf part) wp command address ≡ false
-    → (play part (chip cells d) (writeCycles wp (writesOf (rowOf part) command address word)) ≡ chip cells (device ReadMode 0 (operationOf (rowOf part) command address word)))
+    → (play part (chip cells d) (writeCycles wp (writesOf (rowOf part) command address word)) ≡ chip cells (device (busyWith (d .core) (operationOf (rowOf part) command address word)) 0))
     × (startedIn part (chip cells d) (writeCycles wp (writesOf (rowOf part) command address word)) ≡ operationOf (rowOf part) command address word ∷ [])
 writes-start part command address word wp cells d accepted whole rest heeded =
     let w = Asked.asked part command address word accepted in
     let i = idle-is d rest in
     let cs = writeCycles wp (writesOf (rowOf part) command address word) in
-    let l = command-leads part (w .known) cells whole wp (d .running) (i .1) command address word (w .target) heeded in
+    let l = command-leads part (w .known) cells whole wp (d .core) (idle-rests (d .core) (i .1)) command address word (w .target) heeded in
     (ap (λ (d : Device). play part (chip cells d) cs) (i .0) ∙ l .played, ap (λ (d : Device). startedIn part (chip cells d) cs) (i .0) ∙ l .begun)
 
 -- ---- D2: a started driver against the model
@@ -93,6 +93,9 @@ module _ (part command address word p : ℕ) (wp : Bool) (cells : List ℕ) (d :
   abbrev ending-with : ℕ → Phase → Step
   ending-with polls f = ended (moved (begun part command address word p) Polling polls) f
 
+  idles : (d ≡ device (d .core) 0) × (coreIdle (d .core) ≡ true)
+  idles = idle-is d rest
+
   -- Where bit 7 of the shown value is the wanted one, it sends the writes, N polls and one confirming read, and ends 0 where the shown value is the wanted
   -- one, and else 12; with N polls in the result.
   pub performs : bitSeven shown ≡ bitWanted command word → (n read : ℕ) → writeCount command + N + 1 ≤ n
@@ -101,9 +104,9 @@ module _ (part command address word p : ℕ) (wp : Bool) (cells : List ℕ) (d :
       let c = few-commands part command address word p accepted in
       let l = kept-last r command address word c in
       let a = kept-address command address in
-      rw (started part command address word p accepted)
+      rw (started part command address word p accepted, idles .0)
       (rw (kept-writes r command address word c, l, a, kept-value r command word) at
-      (Talks.performs (begun part command address word p) (kept-accepted part command address word p accepted) wp cells whole d rest (kept-heeded r command address word c wp ∙ heeded)
+      (Talks.performs (begun part command address word p) (kept-accepted part command address word p accepted) wp cells whole (d .core) (idles .1) (kept-heeded r command address word c wp ∙ heeded)
       n read enough (rw (l, a, kept-bit command word) (eq-eqb (bitSeven shown) (bitWanted command word) hit))))
 
   -- Where it is not (a program over a cell whose bit 7 would have to rise), it sends the writes and 2N polls, and ends 11 with 2N polls in the result.
@@ -113,9 +116,9 @@ module _ (part command address word p : ℕ) (wp : Bool) (cells : List ℕ) (d :
       let c = few-commands part command address word p accepted in
       let l = kept-last r command address word c in
       let a = kept-address command address in
-      rw (started part command address word p accepted, append-nil (replicate (N * 2) (cycle p wp (Read at))))
+      rw (started part command address word p accepted, idles .0, append-nil (replicate (N * 2) (cycle p wp (Read at))))
       (rw (kept-writes r command address word c, l, a) at
-      (Talks.gives-up (begun part command address word p) (kept-accepted part command address word p accepted) wp cells whole d rest (kept-heeded r command address word c wp ∙ heeded)
+      (Talks.gives-up (begun part command address word p) (kept-accepted part command address word p accepted) wp cells whole (d .core) (idles .1) (kept-heeded r command address word c wp ∙ heeded)
       n read enough (rw (l, a, kept-bit command word) (ne-eqb (bitSeven shown) (bitWanted command word) miss))))
 
   -- The writes, N polls and the confirming read told by their places, whatever follows.
@@ -123,8 +126,9 @@ module _ (part command address word p : ℕ) (wp : Bool) (cells : List ℕ) (d :
       ≡ replicate (writeCount command) NoRead ++ (replicate N (ARead Polls) ++ (ARead Confirms ∷ placesIn part Scans leaving cs))
   placed cs =
       let c = few-commands part command address word p accepted in
-      rw (kept-writes r command address word c, kept-last r command address word c, kept-address command address) at
-      (Talks.placed (begun part command address word p) (kept-accepted part command address word p accepted) wp cells whole d rest (kept-heeded r command address word c wp ∙ heeded) cs)
+      rw (idles .0)
+      (rw (kept-writes r command address word c, kept-last r command address word c, kept-address command address) at
+      (Talks.placed (begun part command address word p) (kept-accepted part command address word p accepted) wp cells whole (d .core) (idles .1) (kept-heeded r command address word c wp ∙ heeded) cs))
 
   -- So where the shown value is the wanted one, it ends 0 after N polls and the confirming read.
   pub succeeds : shown ≡ valueWanted r command word → (n read : ℕ) → writeCount command + N + 1 ≤ n

@@ -31,7 +31,7 @@ passes Confirms b = Scans
 
 -- what is due after a cycle
 abbrev pub dueAfter : ℕ → Due → Chip → Cycle → Action → Due
-dueAfter part u h c (Read a) = passes u (busy (after part h c .device))
+dueAfter part u h c (Read a) = passes u (busy (after part h c .device .core))
 dueAfter part u h c (Write a x) = begins u (startedBy part h c)
 dueAfter part u h c Idle = u
 dueAfter part u h c (Cut s) = Scans

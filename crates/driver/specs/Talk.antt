@@ -5,14 +5,13 @@ use mathlib.Core.List.{List, [], _∷_, _++_, map}
 use lib.ListN.{getD, replicate}
 use Rattle.parts.specs.Pick.{pick}
 use Rattle.parts.specs.Width.{valueOf}
-use Rattle.parts.specs.Time.{timeOf}
 use Rattle.parts.specs.declared.table.Row.{Row}
 use Rattle.chip.specs.declared.device.Operation.{Operation}
 use Rattle.chip.specs.declared.cycle.Action.{Action}
 use Rattle.chip.specs.declared.cycle.Action.the-variants.{Read, Write}
 use Rattle.chip.specs.declared.cycle.Cycle.{Cycle}
-use Rattle.chip.specs.Device.{operation}
 use Rattle.chip.specs.Operation.{completeOn}
+use Rattle.chip.specs.Sequence.{newOperation}
 use Rattle.chip.specs.Cycle.{Chip, cycleOf}
 use Rattle.chip.specs.Trace.{after}
 use Rattle.driver.specs.declared.writes.Write.{Write as Written}
@@ -40,7 +39,7 @@ operationCycles r wp command a x p n f =
 
 -- the operation that a command's last write starts, with its table time left
 abbrev pub operationOf : Row → ℕ → ℕ → ℕ → Operation
-operationOf r command a x = operation command (lastWrite r command a x .address) (lastWrite r command a x .«data») (timeOf r command) true
+operationOf r command a x = newOperation r command (lastWrite r command a x .address) (lastWrite r command a x .«data»)
 
 -- the cells once it has completed
 abbrev pub completed : Row → ℕ → ℕ → ℕ → List ℕ → List ℕ

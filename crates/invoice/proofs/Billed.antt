@@ -12,11 +12,12 @@ use Rattle.parts.specs.Time.{timeOf}
 use Rattle.parts.proofs.Ranges.{sector-some}
 use Rattle.chip.specs.declared.device.Device.{Device}
 use Rattle.chip.specs.declared.cycle.Cycle.{Cycle}
-use Rattle.chip.specs.Device.{freshDevice, idle}
+use Rattle.chip.specs.Device.{freshDevice}
 use Rattle.chip.specs.Cycle.{Chip, chip}
 use Rattle.chip.specs.Trace.{play, startedIn}
 use Rattle.driver.specs.Machine.{confirmAfter}
 use Rattle.driver.specs.Reads.{Scans, Polls, Confirms, Place, placesIn, howMany}
+use Rattle.chip.proofs.Idle.{fresh-idle}
 use Rattle.job.specs.declared.loader.Job.{Job}
 use Rattle.job.specs.declared.run.Tally.{Tally}
 use Rattle.job.specs.Refusal.{jobRefusal}
@@ -111,17 +112,16 @@ module _ (part : ℕ) (cells : List ℕ) (first : ℕ) (image : List ℕ) (wp : 
 
   -- the job's own cycles are such a list
   pub job-rivals : Rival part cells first image freshDevice (cyclesIn (sentOf j image cells))
-  unfolding idle
   job-rivals =
       let s = held j image (ok .right) cells (ok .whole) in
       let h = image-held j image (ok .right) cells (ok .whole) (sector-some (rowOf part .width)) in
       let e = world-plays part (world cells noneSent) (sentOf j image cells) in
       record {
-        begins = refl;
+        begins = fresh-idle;
         uncut = s .whole;
         blocks = rw (s .begun) (s .blocks);
         chips = rw (s .begun) (s .chips);
-        ends = rw (← e, h .ready .rest);
+        ends = rw (← e, h .ready .rest) fresh-idle;
         holds = rw (← e) (h .holds);
       }
 

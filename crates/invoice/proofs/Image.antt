@@ -19,9 +19,10 @@ use Rattle.parts.specs.declared.table.Row.{Row}
 use Rattle.chip.specs.Sequence.{ignored}
 use Rattle.chip.specs.declared.cycle.Action.the-variants.{Read}
 use Rattle.chip.specs.declared.device.Operation.{Operation}
-use Rattle.chip.specs.Device.{freshDevice, idle}
+use Rattle.chip.specs.Device.{freshDevice}
 use Rattle.chip.specs.Cycle.{Chip, chip}
 use Rattle.chip.specs.Trace.{after, play}
+use Rattle.chip.proofs.Idle.{fresh-idle}
 use Rattle.driver.specs.declared.machine.Next.{Next}
 use Rattle.driver.specs.declared.machine.Next.the-variants.{Nothing, Send}
 use Rattle.driver.specs.declared.machine.Step.{Step}
@@ -72,11 +73,10 @@ module _ (j : Job) (image : List ℕ) (R : Right j image) where
   -- ---- one operation, from a world at rest, where the value shown then is the wanted one
   operation-leaves : (command a x : ℕ) → command ≤ 1 → startRefusal (j .part) command a x (j .p) ≡ 0 → ignored r (j .wp) command a ≡ false → (w : World) → Ready j image R w
       → shownAfter r command a x (w .cells) ≡ valueWanted r command x → chipOf (playOf (j .part) w (operated j command a x)) ≡ chip (completed r command a x (w .cells)) freshDevice
-  unfolding idle
   operation-leaves command a x few accepted heeded w g same =
       let n = writeCount command + pollsOf r command (j .p) + 1 in
       let first = stepOf (startOf (j .part) command a x (j .p) .driver) 0 in
-      let t = succeeds (j .part) command a x (j .p) (j .wp) (w .cells) (w .held .device) accepted (g .whole) (rw (g .rest)) heeded same n 0 (le-refl n) in
+      let t = succeeds (j .part) command a x (j .p) (j .wp) (w .cells) (w .held .device) accepted (g .whole) (rw (g .rest) fresh-idle) heeded same n 0 (le-refl n) in
       world-plays (j .part) w (operated j command a x)
       ∙ (ap (play (j .part) (chipOf w)) (cycles-are command few) ∙ (rw t at (talk-plays (j .part) (j .wp) n first (chipOf w))))
     where
@@ -107,9 +107,8 @@ module _ (j : Job) (image : List ℕ) (R : Right j image) where
     heeds-erase : ignored r (j .wp) 1 a ≡ false
 
   programs-cell : (a x : ℕ) (w : World) → May a x → Ready j image R w → bitAnd (value (at w a)) x ≡ x → Put w a x (operated j 0 a x) (programming j a x)
-  unfolding idle
   programs-cell a x w m g clears =
-      let shown = program-shows (j .part) 0 a x (j .p) (j .wp) (w .cells) (w .held .device) (m .program) (g .whole) (rw (g .rest)) (m .heeds-program) refl in
+      let shown = program-shows (j .part) 0 a x (j .p) (j .wp) (w .cells) (w .held .device) (m .program) (g .whole) (rw (g .rest) fresh-idle) (m .heeds-program) refl in
       let c = operation-leaves 0 a x (omega arith) (m .program) (m .heeds-program) w g (shown ∙ clears) in
       let done : playOf (j .part) w (operated j 0 a x) .cells ≡ completed r 0 a x (w .cells) = ap (λ (h : Chip). h .cells) c in
       let e = done ∙ program-leaves r a x (w .cells) (omega (arith, m .room, g .whole)) in
@@ -117,7 +116,7 @@ module _ (j : Job) (image : List ℕ) (R : Right j image) where
         ready = record { rest = ap (λ (h : Chip). h .device) c; whole = ap length e ∙ (length-set (w .cells) a (bitAnd (at w a) x) ∙ g .whole) };
         others = λ i n. ap (λ (l : List ℕ). getD l i 0) e ∙ getD-set-other (w .cells) a i (bitAnd (at w a) x) 0 n;
         here = ap (λ (l : List ℕ). value (getD l a 0)) done ∙ (shown ∙ clears);
-        starts = starts-operated j 0 a x (omega arith) (R .row) w (m .program) (g .whole) (rw (g .rest)) (m .heeds-program) c;
+        starts = starts-operated j 0 a x (omega arith) (R .row) w (m .program) (g .whole) (rw (g .rest) fresh-idle) (m .heeds-program) c;
       }
 
   -- ---- a stretch of cells
@@ -287,9 +286,8 @@ module _ (j : Job) (image : List ℕ) (R : Right j image) where
     starts : Starts (j .part) w L os
 
   erased : (a x : ℕ) (w : World) → May a x → a % j .size ≡ 0 → a + j .size ≤ r .cells → Ready j image R w → Erased w a (operated j 1 a 0) (operationOf r 1 a 0 ∷ [])
-  unfolding idle
   erased a x w m aligned t g =
-      let shown = erase-shows (j .part) 1 a 0 (j .p) (j .wp) (w .cells) (w .held .device) (m .erase) (g .whole) (rw (g .rest)) (m .heeds-erase) (λ e. absurd (omega arith)) in
+      let shown = erase-shows (j .part) 1 a 0 (j .p) (j .wp) (w .cells) (w .held .device) (m .erase) (g .whole) (rw (g .rest) fresh-idle) (m .heeds-erase) (λ e. absurd (omega arith)) in
       let c = operation-leaves 1 a 0 (omega arith) (m .erase) (m .heeds-erase) w g shown in
       let e : playOf (j .part) w (operated j 1 a 0) .cells ≡ completed r 1 a 0 (w .cells) = ap (λ (h : Chip). h .cells) c in
       let z : a % sectorSize (r .width) ≡ 0 = rw (R .size) at aligned in
@@ -300,7 +298,7 @@ module _ (j : Job) (image : List ℕ) (R : Right j image) where
             ∙ (List·getD-append (take a (w .cells)) _ 0 i (rw (length-take-le a (w .cells) (omega arith)) h) ∙ getD-take a (w .cells) i 0 h);
         above = λ i h. ap (λ (l : List ℕ). getD l i 0) e ∙ beyond (completed r 1 a 0 (w .cells)) (w .cells) (a + sectorSize (r .width)) i (omega (arith, R .size)) (erase-drop r a z (w .cells) s);
         blank = λ i h. ap (λ (l : List ℕ). value (getD l (a + i) 0)) e ∙ (ap value (erase-at r a z (w .cells) s i (omega (arith, R .size))) ∙ value-blank (r .width));
-        starts = starts-operated j 1 a 0 (omega arith) (R .row) w (m .erase) (g .whole) (rw (g .rest)) (m .heeds-erase) c;
+        starts = starts-operated j 1 a 0 (omega arith) (R .row) w (m .erase) (g .whole) (rw (g .rest) fresh-idle) (m .heeds-erase) c;
       }
     where
       beyond : (l k : List ℕ) (n i : ℕ) → n ≤ i → drop n l ≡ drop n k → getD l i 0 ≡ getD k i 0

@@ -28,7 +28,7 @@ use Rattle.chip.specs.Operation.{cellsOf, finished, completeOn}
 use Rattle.chip.specs.Cycle.{chip}
 use Rattle.chip.specs.Trace.{play, startedIn, uncut, perform}
 use Rattle.chip.proofs.Leaves.{stored}
-use Rattle.chip.proofs.Trace.{trace, idle-rests}
+use Rattle.chip.proofs.Trace.{trace}
 use Rattle.chip.proofs.Ranges.{Startable, All, started-all}
 use Rattle.driver.specs.Writes.{lastWrite}
 use Rattle.driver.specs.Talk.{operationOf}
@@ -253,7 +253,7 @@ module _ (j : Job) (image : List ℕ) (R : Right j image) (cells : List ℕ) (fu
       let os = startedIn (j .part) (chip cells d) cs in
       let t = all-is r os (started-all (j .part) cs (chip cells d)) blocks chips cells full in
       let k = all-is r (operationsOf j image cells) startable (held .blocks) (held .chips) cells full in
-      let p = trace (j .part) cs (chip cells d) whole (idle-rests d rests) (idle-rests _ ends) in
+      let p = trace (j .part) cs (chip cells d) whole rests ends in
       let room : (j .first / size + j .count / size) * size ≤ length cells = omega (arith, sectors-first, sectors-count, R .range, R .count) in
       let best = job-best (r .width) size (timeOf r 0) (timeOf r 1) (j .first / size) (j .count / size) cells image (map (opOf size) os) room (there (play (j .part) (chip cells d) cs .cells) (performAll (r .width) size (map (opOf size) os) cells) (p ∙ t .0) holds) in
       omega (arith, best, t .1, k .1, ap (costAll (timeOf r 0) (timeOf r 1)) listed)

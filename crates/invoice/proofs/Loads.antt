@@ -10,10 +10,11 @@ use lib.ListN.{length, take, drop}
 use Rattle.parts.specs.Table.{rowOf}
 use Rattle.parts.proofs.Ranges.{sector-some}
 use Rattle.chip.specs.declared.device.Operation.{Operation}
-use Rattle.chip.specs.Device.{freshDevice, busy}
+use Rattle.chip.specs.Device.{freshDevice, idle}
 use Rattle.chip.specs.Cycle.{Chip, chip}
 use Rattle.chip.specs.Trace.{play, perform}
 use Rattle.chip.proofs.Trace.{trace}
+use Rattle.chip.proofs.Idle.{fresh-idle}
 use Rattle.job.specs.declared.loader.Job.{Job}
 use Rattle.job.specs.declared.run.Tally.{Tally}
 use Rattle.job.specs.Total.{sumOf}
@@ -80,9 +81,9 @@ module _ (part : ℕ) (cells : List ℕ) (first : ℕ) (image : List ℕ) (wp : 
       let s = held j image (w .right) cells (w .whole) in
       let h = image-held j image (w .right) cells (w .whole) (sector-some (rowOf part .width)) in
       let e = world-plays part (world cells noneSent) (sentOf j image cells) in
-      let rest : busy (play part (chip cells freshDevice) (cyclesIn (sentOf j image cells)) .device) ≡ false = rw (← e, h .ready .rest) in
+      let rest : idle (play part (chip cells freshDevice) (cyclesIn (sentOf j image cells)) .device) ≡ true = rw (← e, h .ready .rest) fresh-idle in
       ap (λ (h : Chip). h .cells) e
-      ∙ (trace part (cyclesIn (sentOf j image cells)) (chip cells freshDevice) (s .whole) refl rest ∙ ap (λ (os : List Operation). perform (rowOf part) os cells) (s .begun))
+      ∙ (trace part (cyclesIn (sentOf j image cells)) (chip cells freshDevice) (s .whole) fresh-idle rest ∙ ap (λ (os : List Operation). perform (rowOf part) os cells) (s .begun))
 
   counts-are : tallyOf (sentOf j image cells) ≡ counted j (many 1 os) (many 0 os)
   counts-are =

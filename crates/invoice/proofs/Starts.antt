@@ -12,14 +12,14 @@ use Rattle.parts.specs.Pick.{pick}
 use Rattle.parts.specs.Table.{rowOf}
 use Rattle.parts.proofs.Every.{both}
 use Rattle.parts.specs.Time.{pollsOf}
-use Rattle.chip.specs.declared.device.Device.{Device}
 use Rattle.chip.specs.declared.device.Operation.{Operation}
 use Rattle.chip.specs.declared.cycle.Action.the-variants.{Read}
 use Rattle.chip.specs.declared.cycle.Cycle.{Cycle}
-use Rattle.chip.specs.Device.{freshDevice, busy, idle}
+use Rattle.chip.specs.Device.{freshDevice, idle}
 use Rattle.chip.specs.Sequence.{ignored}
-use Rattle.chip.specs.Cycle.{Chip, chip, Outcome, outcome, shownOf, status, toggled, cycleRefusal, settledOf, readOf, acceptedOf, cycleOf}
+use Rattle.chip.specs.Cycle.{Chip, chip, cycleRefusal}
 use Rattle.chip.specs.Trace.{after, play, startedBy, startedIn, uncutAction, uncut}
+use Rattle.chip.proofs.Bits.{pick-same}
 use Rattle.driver.specs.declared.writes.Write.{Write}
 use Rattle.driver.specs.Writes.{writesOf, writeCount}
 use Rattle.driver.specs.Machine.{addressOf, confirmAfter}
@@ -49,28 +49,8 @@ started-append part h (c ∷ cs) ds =
 
 -- a read starts nothing
 pub read-starts : (part : ℕ) (h : Chip) (e : ℕ) (wp : Bool) (a : ℕ) → startedBy part h (cycle e wp (Read a)) ≡ []
-unfolding startedBy after cycleOf acceptedOf readOf
-read-starts part h e wp a = by (eqb (cycleRefusal part (length (h .cells)) (h .device) (Read a)) 0)
-  where
-    s : Chip
-    s = settledOf (rowOf part) (h .cells) (h .device) e
-
-    shown : Bool → Outcome
-    shown b = pick b (outcome (s .cells) (status (s .device .running)) (toggled (s .device))) (outcome (s .cells) (shownOf (rowOf part) (s .cells) (s .device .mode) a) (s .device))
-
-    o : Bool → Outcome
-    o b = pick b (shown (busy (s .device))) (record { cells = h .cells; reply = record { answer = cycleRefusal part (length (h .cells)) (h .device) (Read a); value = 0; device = h .device } })
-
-    starts : Bool → Device → List Operation
-    starts b d = pick b [] (pick (busy d) (d .running ∷ []) [])
-
-    rests : (b : Bool) → busy (s .device) ≡ b → starts b (shown b .reply .device) ≡ []
-    rests true q = refl
-    rests false q = rw q
-
-    by : (b : Bool) → pick b (starts (busy (s .device)) (o b .reply .device)) [] ≡ []
-    by true = rests (busy (s .device)) refl
-    by false = refl
+unfolding startedBy
+read-starts part h e wp a = pick-same (eqb (cycleRefusal part (length (h .cells)) (h .device) (Read a)) 0) []
 
 -- nor do n reads in front of cycles that start nothing
 pub reads-start : (part n e : ℕ) (wp : Bool) (a : ℕ) (cs : List Cycle) → ((h : Chip) → startedIn part h cs ≡ []) → (h : Chip) → startedIn part h (replicate n (cycle e wp (Read a)) ++ cs) ≡ []

@@ -10,9 +10,10 @@ use lib.ListN.{length}
 use Rattle.parts.specs.Table.{rowOf}
 use Rattle.parts.specs.Time.{pollsOf}
 use Rattle.chip.specs.declared.cycle.Action.the-variants.{Write}
-use Rattle.chip.specs.Device.{freshDevice, idle}
+use Rattle.chip.specs.Device.{freshDevice}
 use Rattle.chip.specs.Sequence.{ignored}
 use Rattle.chip.specs.Cycle.{Chip, chip}
+use Rattle.chip.proofs.Idle.{fresh-idle}
 use Rattle.driver.specs.declared.writes.Write.{Write as Written}
 use Rattle.driver.specs.declared.machine.Phase.the-variants.{Polling, Done}
 use Rattle.driver.specs.declared.machine.Driver.{Driver}
@@ -80,10 +81,9 @@ module _ (j : Job) (image : List ℕ) (right : j .row ≡ rowOf (j .part)) (task
       (same : shownAfter (rowOf (j .part)) command at x (w .cells) ≡ valueWanted (rowOf (j .part)) command x) where
     talk-is : talk (j .part) (j .wp) fuel first (chipOf w)
         ≡ told (operationCycles (rowOf (j .part)) (j .wp) command at x (j .p) n Done) (chip (completed (rowOf (j .part)) command at x (w .cells)) freshDevice) (ended (moved b Polling n) Done)
-    unfolding idle
     talk-is =
         rw (started (j .part) command at x (j .p) accepted) at
-        (succeeds (j .part) command at x (j .p) (j .wp) (w .cells) (w .held .device) accepted whole (rw rest) heeded same fuel 0 (le-refl fuel))
+        (succeeds (j .part) command at x (j .p) (j .wp) (w .cells) (w .held .device) accepted whole (rw rest fresh-idle) heeded same fuel 0 (le-refl fuel))
 
     -- the driver has said it at its end
     listed : operated j command at x ≡ spoken Sent (asSent j command) (j .part) (j .wp) fuel first (chipOf w)

@@ -18,9 +18,10 @@ use Rattle.parts.specs.Table.{rowOf}
 use Rattle.parts.specs.declared.table.Row.{Row}
 use Rattle.chip.specs.declared.cycle.Action.the-variants.{Read}
 use Rattle.chip.specs.declared.cycle.Cycle.{Cycle}
-use Rattle.chip.specs.Device.{freshDevice, inRange, idle}
+use Rattle.chip.specs.Device.{freshCore, freshDevice}
 use Rattle.chip.specs.Cycle.{Outcome, outcome, cycleOf}
-use Rattle.chip.proofs.Cases.{read-rest}
+use Rattle.chip.proofs.Cases.{read-idle}
+use Rattle.chip.proofs.Idle.{fresh-core-idle, fresh-idle}
 use Rattle.driver.specs.Talk.{cycle, completed}
 use Rattle.driver.proofs.Theorems.{program-shows, erase-shows}
 use Rattle.job.specs.declared.loader.Job.{Job}
@@ -74,10 +75,10 @@ module _ (j : Job) (image : List ℕ) (R : Right j image) where
     pub reply : w′ .held .reply ≡ value (getD (w .cells) a 0)
 
   pub reads-on : (w : World) (a : ℕ) → Ready w → a < r .cells → Read-on w a (sendOf (j .part) w Scan (reading a))
-  unfolding sendOf inRange
+  unfolding sendOf
   reads-on w a g t =
       let o : cycleOf (j .part) (w .cells) (w .held .device) (reading a) ≡ outcome (w .cells) (valueOf (r .width) (getD (w .cells) a 0)) freshDevice =
-      rw (g .rest) (read-rest (j .part) (w .cells) (R .known) (g .whole) a t freshDevice 0 (j .wp) refl refl refl) in
+      rw (g .rest) (read-idle (j .part) (w .cells) (R .known) (g .whole) a t freshCore 0 (j .wp) fresh-core-idle) in
       record {
         ready = record { rest = ap (λ (o : Outcome). o .reply .device) o; whole = ap (λ (o : Outcome). length (o .cells)) o ∙ g .whole };
         cells = ap (λ (o : Outcome). o .cells) o;
@@ -150,7 +151,6 @@ module _ (j : Job) (image : List ℕ) (R : Right j image) where
     programs : (t : Task) (i : ℕ) (seen : List ℕ) (w : World) (L : List Sent) → i < j .size → Ready w → bitAnd (value (getD (w .cells) (a + i) 0)) (imageAt i) ≡ imageAt i
         → ((w′ : World) → Ready w′ → w′ .cells ≡ set (w .cells) (a + i) (bitAnd (getD (w .cells) (a + i) 0) (imageAt i)) → Rest j image (turned seen (afterwards j image t base i)) w′ L)
         → Rest j image (turned seen (beginOf j t base i 0 (imageAt i))) w (operated j 0 (a + i) (imageAt i) ++ L)
-    unfolding idle
     programs task i seen w L h g clears k =
         let q : a + i ≡ placeOf j base i = omega arith in
         let at = placeOf j base i in
@@ -158,7 +158,7 @@ module _ (j : Job) (image : List ℕ) (R : Right j image) where
         let t′ : at < length (w .cells) = omega (arith, there i h, g .whole) in
         let accepted = program-starts j image R at (base + i) t (omega (arith, R .count)) in
         let heeded = R .heeded 0 at (omega arith) (omega arith) (omega (arith, inside)) in
-        let shown = program-shows (j .part) 0 at (imageAt i) (j .p) (j .wp) (w .cells) (w .held .device) accepted (g .whole) (rw (g .rest)) heeded refl in
+        let shown = program-shows (j .part) 0 at (imageAt i) (j .p) (j .wp) (w .cells) (w .held .device) accepted (g .whole) (rw (g .rest) fresh-idle) heeded refl in
         let same : bitAnd (valueOf (r .width) (getD (w .cells) at 0)) (imageAt i) ≡ imageAt i = rw (R .row, q) at clears in
         rest-is j image _ _ w _ (operated j 0 at (imageAt i) ++ L) refl (ap (λ (n : ℕ). operated j 0 n (imageAt i) ++ L) q)
         (operates j image (R .row) task base i inside h seen 0 (imageAt i) (omega arith) accepted heeded w (g .rest) (g .whole) (shown ∙ same) L
@@ -348,14 +348,13 @@ module _ (j : Job) (image : List ℕ) (R : Right j image) where
       -- an erase, then the sector is filled
       erases : (seen : List ℕ) (w : World) (D : List ℕ) (L : List Sent) → length seen ≡ 4096 → 0 < j .size → Ready w → drop (a + j .size) (w .cells) ≡ D → Next D L
           → Rest j image (turned seen (beginOf j Erasing base 0 1 0)) w (operated j 1 a 0 ++ (fills j a v ++ L))
-      unfolding idle
       erases seen w D L n some g d h =
           let q : a ≡ placeOf j base 0 = omega arith in
           let at = placeOf j base 0 in
           let t : at < r .cells = omega (arith, there 0 some) in
           let accepted = erase-starts j image R at t in
           let heeded = R .heeded 1 at (omega arith) (omega arith) (omega (arith, inside)) in
-          let shown = erase-shows (j .part) 1 at 0 (j .p) (j .wp) (w .cells) (w .held .device) accepted (g .whole) (rw (g .rest)) heeded (λ e. absurd (omega arith)) in
+          let shown = erase-shows (j .part) 1 at 0 (j .p) (j .wp) (w .cells) (w .held .device) accepted (g .whole) (rw (g .rest) fresh-idle) heeded (λ e. absurd (omega arith)) in
           let room : a + sectorSize (r .width) ≤ length (w .cells) = omega (arith, R .size, R .range, g .whole) in
           let z : a + 0 ≡ a = omega arith in
           let y : base + 0 ≡ base = omega arith in

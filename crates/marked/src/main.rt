@@ -76,7 +76,8 @@ fn read(s: Socket, cells: &mut [u16], d: Device, elapsed: u32, a: u32) -> Device
 
 // Prints whether an operation is pending.
 fn pending(d: Device) {
-    let o = d.running;
+    let core = d.core;
+    let o = core.running;
     if 0 < o.left {
         io::write_all(1, b" busy");
     } else {

@@ -5,6 +5,7 @@ use crate::station::Station;
 use crate::station::Turn;
 use crate::station::least;
 use chip::Action;
+use chip::Core;
 use chip::Cycle;
 use chip::Device;
 use chip::Mode;
@@ -33,8 +34,9 @@ fn mode_from(identifies: bool) -> Mode {
 
 // A line with a device's seven numbers more.
 pub(crate) fn and_device(line: Line, d: Device) -> Line {
-    let mode = d.mode;
-    let o = d.running;
+    let core = d.core;
+    let mode = core.mode;
+    let o = core.running;
     let front = line.and(mode_number(mode)).and32(d.stage);
     let middle = front.and32(o.kind).and32(o.address);
     let back = middle.and16(o.data).and32(o.left);
@@ -50,10 +52,13 @@ fn device_from(line: Line) -> Device {
         left: line.long(6),
         toggle: line.level(7),
     };
-    Device {
+    let core = Core {
         mode: mode_from(line.level(1)),
-        stage: line.long(2),
         running,
+    };
+    Device {
+        core,
+        stage: line.long(2),
     }
 }
 

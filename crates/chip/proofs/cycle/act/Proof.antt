@@ -1,10 +1,9 @@
 -- `chip::cycle::act` meets its contract.
 use mathlib.Core.Path.{refl, ap, sym, _∙_}
 use native.Mathlib.Omega.{arith}
-use borrow.Author.Needs.{needs}
-use Rattle.chip.specs.Cycle.{actionRefusal, writeOf, cutOf}
+use Rattle.chip.specs.Cycle.{actionRefusal}
 use Rattle.chip.proofs.Accepted.{read-there}
-use Rattle.chip.proofs.Settled.{read-cells}
+use borrow.Author.Needs.{needs}
 use Rattle.chip.proofs.cycle.act.Statement.{statement}
 use Rattle.chip.proofs.cycle.act.Tie as tie
 
@@ -12,34 +11,16 @@ read-cycle-requires : tie.Need-read-cycle-requires
 read-cycle-requires c κs = (c .before .before .before .before .before .pre .0, omega (arith, read-there (c .before .before .before .before .before .args .row) (c .before .before .action .given .0 .0) (ap (actionRefusal (c .before .before .before .before .before .args .row)) (sym (c .before .before .action .given .1)) ∙ c .before .before .before .before .before .pre .1 .1 .1), c .before .before .before .before .before .pre .1 .1 .0))
 
 returns : tie.Need-returns
-returns c = simp (c .before .before .before .action .given .1) (c .read-cycle .ensures, sym (read-cells _ _ _ _))
+returns c = simp (c .before .before .before .action .given .1) (c .read-cycle .ensures, refl)
 
 returns-2 : tie.Need-returns-2
-unfolding writeOf
-returns-2 c = simp (c .before .before .action2 .given .1, c .write-cycle .ensures) (refl, refl)
+returns-2 c = simp (c .before .before .action2 .given .1, c .written .ensures) (refl, refl)
 
 returns-3 : tie.Need-returns-3
 returns-3 c = simp (c .enum-told .given .1) (refl, refl)
 
 returns-4 : tie.Need-returns-4
-unfolding cutOf
-returns-4 c = simp (c .before .before .before .before .before .before .action3 .given .1, c .fresh .ensures) (refl, c .before .before .before .cut-cycle .ensures)
+returns-4 c = simp (c .before .before .before .before .before .before .action3 .given .1, c .fresh .ensures) (refl, c .before .before .before .cut .ensures)
 
 pub act-spec : {M : Type 1} → statement M
-act-spec =
-    tie.close
-    (tie.spec
-    (λ c. search needs)
-    read-cycle-requires
-    (λ c. search needs)
-    (λ c κs. search needs)
-    (λ c. search needs)
-    (λ c. search needs)
-    (λ c κs. search needs)
-    (λ c κs. search needs)
-    (λ c. search needs)
-    returns
-    returns-2
-    returns-3
-    (λ c. search needs)
-    returns-4)
+act-spec = tie.close (tie.spec (λ c. search needs) read-cycle-requires (λ c. search needs) (λ c κs. search needs) (λ c. search needs) (λ c. search needs) (λ c κs. search needs) (λ c κs. search needs) (λ c. search needs) returns returns-2 returns-3 (λ c. search needs) returns-4)

@@ -1,43 +1,21 @@
 -- `chip::cycle::cycle_refusal` meets its contract.
-use mathlib.Core.Path.{ap, sym, _∙_}
-use borrow.Author.Needs.{needs}
+use mathlib.Core.Path.{sym, _∙_}
 use borrow.Author.Tests.{eq-eqb, ne-eqb, lt-ltb, le-ltb}
-use Rattle.parts.specs.declared.table.Found.{Found}
-use Rattle.chip.specs.Cycle.{cycleRefusal}
+use borrow.Author.Needs.{needs}
 use Rattle.chip.proofs.cycle.cycle_refusal.Statement.{statement}
 use Rattle.chip.proofs.cycle.cycle_refusal.Tie as tie
 
 returns : tie.Need-returns
-unfolding cycleRefusal
-returns c = let e = ap (λ (f : Found). f .answer) (c .before .part-row .ensures) in simp (sym e, lt-ltb _ _ (c .if1 .taken))
+returns c = simp (lt-ltb _ _ (c .if1 .taken))
 
 returns-2 : tie.Need-returns-2
-unfolding cycleRefusal
-returns-2 c = let e = ap (λ (f : Found). f .answer) (c .before .before .before .before .before .before .before .part-row .ensures) in
-    let r = ap (λ (f : Found). f .row) (c .before .before .before .before .before .before .before .part-row .ensures) in
-    simp (sym e, sym r, le-ltb _ _ (c .before .before .before .before .before .before .if1 .left), eq-eqb _ _ (c .before .before .before .if2 .taken), sym (c .before .before .in-range .ensures) ∙ c .before .if3 .taken) (c .action-refusal .ensures)
+returns-2 c = simp (le-ltb _ _ (c .before .before .before .before .before .before .if1 .left), eq-eqb _ _ (c .before .before .before .if2 .taken), sym (c .before .before .in-range .ensures) ∙ c .before .if3 .taken) (c .action-refusal .ensures)
 
 returns-3 : tie.Need-returns-3
-unfolding cycleRefusal
-returns-3 c = let e = ap (λ (f : Found). f .answer) (c .before .before .before .before .before .before .part-row .ensures) in
-    let r = ap (λ (f : Found). f .row) (c .before .before .before .before .before .before .part-row .ensures) in
-    simp (sym e, sym r, le-ltb _ _ (c .before .before .before .before .before .if1 .left), eq-eqb _ _ (c .before .before .if2 .taken), sym (c .before .in-range .ensures) ∙ c .if3 .left)
+returns-3 c = simp (le-ltb _ _ (c .before .before .before .before .before .if1 .left), eq-eqb _ _ (c .before .before .if2 .taken), sym (c .before .in-range .ensures) ∙ c .if3 .left)
 
 returns-4 : tie.Need-returns-4
-unfolding cycleRefusal
-returns-4 c = let e = ap (λ (f : Found). f .answer) (c .before .before .before .before .part-row .ensures) in
-    let r = ap (λ (f : Found). f .row) (c .before .before .before .before .part-row .ensures) in
-    simp (sym e, sym r, le-ltb _ _ (c .before .before .before .if1 .left), ne-eqb _ _ (c .if2 .left))
+returns-4 c = simp (le-ltb _ _ (c .before .before .before .if1 .left), ne-eqb _ _ (c .if2 .left))
 
 pub cycle-refusal-spec : {M : Type 1} → statement M
-cycle-refusal-spec =
-    tie.close
-    (tie.spec
-    (λ c κs. search needs)
-    returns
-    (λ c. search needs)
-    (λ c κs. search needs)
-    (λ c κs. search needs)
-    returns-2
-    returns-3
-    returns-4)
+cycle-refusal-spec = tie.close (tie.spec returns (λ c. search needs) (λ c κs. search needs) (λ c κs. search needs) returns-2 returns-3 returns-4)

@@ -1,8 +1,8 @@
 -- `chip::cycle::settle` meets its contract.
 use mathlib.Core.Path.{refl}
-use borrow.Author.Needs.{needs}
 use borrow.Author.Tests.{lt-ltb, le-ltb}
 use Rattle.chip.specs.Cycle.{settledOf}
+use borrow.Author.Needs.{needs}
 use Rattle.chip.proofs.cycle.settle.Statement.{statement}
 use Rattle.chip.proofs.cycle.settle.Tie as tie
 
@@ -12,7 +12,7 @@ returns c = simp (le-ltb _ _ (c .if1 .taken)) (refl, refl)
 
 returns-2 : tie.Need-returns-2
 unfolding settledOf
-returns-2 c = simp (lt-ltb 0 _ (c .before .before .if1 .left), lt-ltb _ _ (c .before .if2 .taken)) (c .with-left .ensures, refl)
+returns-2 c = simp (lt-ltb 0 _ (c .before .before .before .if1 .left), lt-ltb _ _ (c .before .before .if2 .taken), c .with-running .ensures, c .before .with-left .ensures) (refl, refl)
 
 complete-requires : tie.Need-complete-requires
 unfolding settledOf
@@ -20,17 +20,7 @@ complete-requires c κs = (c .before .before .before .before .before .pre .1 .wi
 
 returns-3 : tie.Need-returns-3
 unfolding settledOf
-returns-3 c = simp (lt-ltb 0 _ (c .before .before .before .before .before .before .if1 .left), le-ltb _ _ (c .before .before .before .before .before .if2 .left), c .no-operation .ensures) (refl, c .before .before .before .complete .ensures)
+returns-3 c = simp (lt-ltb 0 _ (c .before .before .before .before .before .before .if1 .left), le-ltb _ _ (c .before .before .before .before .before .if2 .left)) (c .at-rest .ensures, c .before .before .before .complete .ensures)
 
 pub settle-spec : {M : Type 1} → statement M
-settle-spec =
-    tie.close
-    (tie.spec
-    returns
-    (λ c. search needs)
-    (λ c κs. search needs)
-    returns-2
-    complete-requires
-    (λ c κs. search needs)
-    (λ c. search needs)
-    returns-3)
+settle-spec = tie.close (tie.spec returns (λ c. search needs) (λ c κs. search needs) (λ c κs. search needs) returns-2 complete-requires (λ c κs. search needs) (λ c. search needs) returns-3)

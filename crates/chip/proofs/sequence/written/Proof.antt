@@ -1,12 +1,17 @@
 -- `chip::sequence::written` meets its contract.
-use borrow.Author.Needs.{needs}
+use mathlib.Core.Path.{sym, _∙_}
 use Rattle.chip.specs.Sequence.{writtenOf}
+use borrow.Author.Needs.{needs}
 use Rattle.chip.proofs.sequence.written.Statement.{statement}
 use Rattle.chip.proofs.sequence.written.Tie as tie
 
 returns : tie.Need-returns
 unfolding writtenOf
-returns c = cc (c .after-effect .ensures, c .before .effect-of .ensures)
+returns c = simp (sym (c .before .is-busy .ensures) ∙ c .if1 .taken)
+
+returns-2 : tie.Need-returns-2
+unfolding writtenOf
+returns-2 c = simp (sym (c .before .before .before .before .is-busy .ensures) ∙ c .before .before .before .if1 .left, c .before .core-after .ensures, c .stage-after .ensures, c .before .before .effect-of .ensures)
 
 pub written-spec : {M : Type 1} → statement M
-written-spec = tie.close (tie.spec (λ c κs. search needs) (λ c κs. search needs) returns)
+written-spec = tie.close (tie.spec (λ c κs. search needs) returns (λ c κs. search needs) (λ c κs. search needs) (λ c κs. search needs) returns-2)

@@ -1,11 +1,11 @@
--- `chip::device::valid_operation` meets its contract.
+-- `chip::device::Operation::is_valid` meets its contract.
 use mathlib.Core.Path.{sym, _∙_}
-use borrow.Author.Needs.{needs}
 use borrow.Author.Tests.{not-true, not-false}
 use Rattle.chip.specs.Device.{validOperation}
 use Rattle.parts.proofs.Rules.{tests}
-use Rattle.chip.proofs.device.valid_operation.Statement.{statement}
-use Rattle.chip.proofs.device.valid_operation.Tie as tie
+use borrow.Author.Needs.{needs}
+use Rattle.chip.proofs.device.Operation.is_valid.Statement.{statement}
+use Rattle.chip.proofs.device.Operation.is_valid.Tie as tie
 
 returns : tie.Need-returns
 unfolding validOperation
@@ -23,14 +23,5 @@ returns-4 : tie.Need-returns-4
 unfolding validOperation
 returns-4 c = simp (sym (c .before .before .before .before .before .before .before .has-command .ensures) ∙ not-false _ (c .before .before .before .before .before .before .if1 .left), sym (c .before .before .before .before .before .time .ensures)) (search tests)
 
-pub valid-operation-spec : {M : Type 1} → statement M
-valid-operation-spec =
-    tie.close
-    (tie.spec
-    (λ c κs. search needs)
-    returns
-    (λ c κs. search needs)
-    returns-2
-    (λ c κs. search needs)
-    returns-3
-    returns-4)
+pub is-valid-spec : {M : Type 1} → statement M
+is-valid-spec = tie.close (tie.spec (λ c κs. search needs) returns (λ c κs. search needs) returns-2 (λ c κs. search needs) returns-3 returns-4)
