@@ -3,6 +3,7 @@ use Prim.Native.Nat.{ℕ, _%_}
 use mathlib.Core.Bool.{Bool, true, false}
 use mathlib.Core.List.{List, [], _∷_}
 use lib.Dec.{eqb, ltb}
+use Rattle.parts.specs.Names.{PROGRAM, SECTOR, BLOCK, CHIP}
 use Rattle.parts.specs.Pick.{pick}
 use Rattle.parts.specs.Span.{hasBlocks, holdsb, protectedOf}
 use Rattle.parts.specs.Time.{timeOf}
@@ -37,7 +38,7 @@ broken = Enters ReadMode
 
 -- the block code starts nothing where the part has no blocks
 abbrev pub blockErase : Row → Effect
-blockErase r = pick (hasBlocks r) (Starts 2) broken
+blockErase r = pick (hasBlocks r) (Starts BLOCK) broken
 
 -- stages: 0 none begun, 1 AAH, 2 55H, 3 armed by A0H, 4 after 80H, 5 AAH again, 6 55H again
 abbrev pub commands : Row → List Rule
@@ -45,13 +46,13 @@ commands r =
     rule 0 (AtU1 0xaa) (Goes 1)
     ∷ rule 1 (AtU2 0x55) (Goes 2)
     ∷ rule 2 (AtU1 0xa0) (Goes 3)
-    ∷ rule 3 Anything (Starts 0)
+    ∷ rule 3 Anything (Starts PROGRAM)
     ∷ rule 2 (AtU1 0x80) (Goes 4)
     ∷ rule 4 (AtU1 0xaa) (Goes 5)
     ∷ rule 5 (AtU2 0x55) (Goes 6)
-    ∷ rule 6 (At (r .«sector_code»)) (Starts 1)
+    ∷ rule 6 (At (r .«sector_code»)) (Starts SECTOR)
     ∷ rule 6 (At (r .«block_code»)) (blockErase r)
-    ∷ rule 6 (AtU1 0x10) (Starts 3)
+    ∷ rule 6 (AtU1 0x10) (Starts CHIP)
     ∷ rule 2 (AtU1 0x90) (Enters Identification)
     ∷ rule 2 (AtU1 0xf0) (Enters ReadMode)
     ∷ []
@@ -75,7 +76,7 @@ effectOf r s a x = firstMet r (commands r) s a x
 unfoldable pub ignored : Row → Bool → ℕ → ℕ → Bool
 ignored r wp k a =
     pick wp false
-    (pick (eqb k 3) (ltb 0 (protectedOf r .count))
+    (pick (eqb k CHIP) (ltb 0 (protectedOf r .count))
     (holdsb (protectedOf r) a))
 
 -- the operation that a write starts, with its table time left

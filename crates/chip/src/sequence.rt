@@ -4,6 +4,10 @@ use crate::Device;
 use crate::Mode;
 use crate::Operation;
 use parts::Row;
+use parts::names::BLOCK;
+use parts::names::CHIP;
+use parts::names::PROGRAM;
+use parts::names::SECTOR;
 ghost use mathlib.Core.Path.{_≡_};
 ghost use Rattle.parts.specs.Pick.{pick};
 ghost use Rattle.chip.specs.Sequence.{AtU1, AtU2, blockErase, broken, coreAfter, effectOf, ignored, isWanted, stageAfter, writtenOf};
@@ -73,7 +77,7 @@ fn block_erase(row: Row) -> Effect
     ensures { λ r. ⌜ r ≡ blockErase row ⌝ }
 {
     if 0 < row.block {
-        return Effect::Starts(2);
+        return Effect::Starts(BLOCK);
     }
     BROKEN
 }
@@ -85,13 +89,13 @@ fn last_write(row: Row, a: u32, x: u16) -> Effect
 {
     let byte = x as u32 % 256;
     if byte == row.sector_code {
-        return Effect::Starts(1);
+        return Effect::Starts(SECTOR);
     }
     if byte == row.block_code {
         return block_erase(row);
     }
     if at_u1(row, a, x, 0x10) {
-        return Effect::Starts(3);
+        return Effect::Starts(CHIP);
     }
     BROKEN
 }
@@ -105,7 +109,7 @@ fn effect_of(row: Row, stage: u32, a: u32, x: u16) -> Effect
         0 => on(at_u1(row, a, x, 0xaa), 1),
         1 => on(at_u2(row, a, x, 0x55), 2),
         2 => third_write(row, a, x),
-        3 => Effect::Starts(0),
+        3 => Effect::Starts(PROGRAM),
         4 => on(at_u1(row, a, x, 0xaa), 5),
         5 => on(at_u2(row, a, x, 0x55), 6),
         6 => last_write(row, a, x),
@@ -121,7 +125,7 @@ fn is_ignored(row: Row, wp: bool, command: u32, a: u32) -> bool
         return false;
     }
     let protected = row.protected_range();
-    if command == 3 {
+    if command == CHIP {
         return 0 < protected.count;
     }
     protected.holds(a)

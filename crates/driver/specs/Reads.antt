@@ -12,6 +12,12 @@ use Rattle.chip.specs.Device.{busy}
 use Rattle.chip.specs.Cycle.{Chip}
 use Rattle.chip.specs.Trace.{after, startedBy}
 
+abbrev pub isRead : Action → Bool
+isRead (Read a) = true
+isRead (Write a x) = false
+isRead Idle = false
+isRead (Cut s) = false
+
 -- what the next read is
 pub data Due : Type 0 where
   Scans : Due
@@ -42,10 +48,7 @@ pub data Place : Type 0 where
   NoRead : Place
 
 abbrev pub readAs : Due → Action → Place
-readAs u (Read a) = ARead u
-readAs u (Write a x) = NoRead
-readAs u Idle = NoRead
-readAs u (Cut s) = NoRead
+readAs u a = pick (isRead a) (ARead u) NoRead
 
 -- each cycle of a list
 abbrev pub placesIn : ℕ → Due → Chip → List Cycle → List Place

@@ -16,7 +16,7 @@ use Rattle.job.specs.declared.search.Rise.{Rise}
 use Rattle.job.specs.declared.search.Rise.the-variants.{At, Nowhere}
 use Rattle.job.specs.declared.search.Decision.{Decision}
 use Rattle.job.specs.declared.search.Decision.the-variants.{NoErase, SectorErase}
-use Rattle.job.specs.Search.{riseIn, orElse, riseFrom, decides, decisionOf}
+use Rattle.job.specs.Search.{riseIn, firstFound, riseFrom, decides, decisionOf}
 use Rattle.job.specs.Refusal.{fitAll}
 use Rattle.job.proofs.Clears.{clears}
 use Rattle.least.specs.LeastTime.{rises, rising}
@@ -70,7 +70,7 @@ module _ (w : ℕ) where
       let b = both (fitsIn w x) (fitAll w v) f in
       either (riseIn i w 0 (valueOf w o) x) (riseFrom w (i + 1) (map (valueOf w) l) v) (rises w o x) (rising w l v) (rise-one i o x (b .0)) (rises-are (i + 1) l v (b .1))
     where
-      either : (r s : Rise) (b : Bool) (n : ℕ) → decides r ≡ erasesIf b → decides s ≡ erasesIf (ltb 0 n) → decides (orElse r s) ≡ erasesIf (ltb 0 (pick b 1 0 + n))
+      either : (r s : Rise) (b : Bool) (n : ℕ) → decides r ≡ erasesIf b → decides s ≡ erasesIf (ltb 0 n) → decides (firstFound r s) ≡ erasesIf (ltb 0 (pick b 1 0 + n))
       either (At c d) s true n p q = rw (lt-ltb 0 (1 + n) (omega arith))
       either (At c d) s false n p q = let z : _≡_ {A = ℕ} 0 1 = cc in absurd (omega arith)
       either Nowhere s true n p q = let z : _≡_ {A = ℕ} 0 1 = cc in absurd (omega arith)

@@ -14,7 +14,7 @@ use Rattle.parts.proofs.Values.{fits-lt}
 use Rattle.job.specs.declared.search.Rise.{Rise}
 use Rattle.job.specs.declared.search.Rise.the-variants.{At, Nowhere}
 use Rattle.job.specs.declared.search.Decision.the-variants.{NoErase, SectorErase}
-use Rattle.job.specs.Search.{riseIn, orElse, riseFrom, decides, decisionOf}
+use Rattle.job.specs.Search.{riseIn, firstFound, riseFrom, decides, decisionOf}
 
 -- found and not found
 pub unlike : {A : Type 0} (i b : ℕ) → At i b ≡ Nowhere → A
@@ -44,7 +44,7 @@ clears i (suc k) b o n h e =
     and-step o n ∙ omega (arith, r, q .1)
 
 -- neither of two searches found one
-neither : (r s : Rise) → orElse r s ≡ Nowhere → (r ≡ Nowhere) × (s ≡ Nowhere)
+neither : (r s : Rise) → firstFound r s ≡ Nowhere → (r ≡ Nowhere) × (s ≡ Nowhere)
 neither (At i b) s e = unlike i b e
 neither Nowhere s e = (refl, e)
 

@@ -14,15 +14,15 @@ riseIn i zero b o n = Nowhere
 riseIn i (suc k) b o n = pick (eqb (o % 2) 0) (pick (eqb (n % 2) 1) (At i b) (riseIn i k (b + 1) (o / 2) (n / 2))) (riseIn i k (b + 1) (o / 2) (n / 2))
 
 -- the first of two searches, or where that found nothing the second
-abbrev pub orElse : Rise → Rise → Rise
-orElse (At i b) r = At i b
-orElse Nowhere r = r
+abbrev pub firstFound : Rise → Rise → Rise
+firstFound (At i b) r = At i b
+firstFound Nowhere r = r
 
 -- the first cell with such a bit, the cells counted from i on
 unfoldable pub riseFrom : ℕ → ℕ → List ℕ → List ℕ → Rise
 riseFrom w i [] ns = Nowhere
 riseFrom w i (o ∷ os) [] = Nowhere
-riseFrom w i (o ∷ os) (n ∷ ns) = orElse (riseIn i w 0 o n) (riseFrom w (i + 1) os ns)
+riseFrom w i (o ∷ os) (n ∷ ns) = firstFound (riseIn i w 0 o n) (riseFrom w (i + 1) os ns)
 
 -- a bit that must rise asks for an erase
 abbrev pub decides : Rise → Decision
