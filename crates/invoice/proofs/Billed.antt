@@ -2,6 +2,7 @@
 use Prim.Native.Nat.{ℕ, _+_, _*_, _≤_}
 use mathlib.Core.Path.{_≡_, refl, sym, ap, _∙_}
 use mathlib.Core.Bool.{Bool}
+use mathlib.Core.Logic.{inl, inr}
 use mathlib.Core.List.{List, [], map, append-nil}
 use native.Mathlib.Nat.{zero-add}
 use native.Mathlib.Omega.{arith}
@@ -31,8 +32,8 @@ use Rattle.invoice.specs.Started.{cyclesIn, timeIn, tableTime}
 use Rattle.invoice.specs.Invoice.{started, placesSent, Invoice, Partly, Rival}
 use Rattle.invoice.proofs.Placed.{placedAs, contents, map-take, places-take}
 use Rattle.invoice.proofs.Starts.{world-plays}
-use Rattle.invoice.proofs.Image.{image-held}
-use Rattle.invoice.proofs.Least.{held, job-times, no-less}
+use Rattle.invoice.proofs.Image.{job-started}
+use Rattle.invoice.proofs.Least.{held, cells-left, image-left, others-left, job-times, no-less}
 
 module _ (part : ℕ) (cells : List ℕ) (first : ℕ) (image : List ℕ) (wp : Bool) (p : ℕ) (accepted : jobRefusal part (length cells) first image wp p ≡ 0) where
   abbrev j : Job
@@ -53,17 +54,18 @@ module _ (part : ℕ) (cells : List ℕ) (first : ℕ) (image : List ℕ) (wp : 
   pub invoice : Invoice part cells first image wp p (loadOf part cells first image wp p)
   unfolding loadOf fullOf confirmAfter
   invoice =
-      let h = image-held j image (ok .right) cells (ok .whole) (sector-some (rowOf part .width)) in
+      let h = job-started j image (ok .right) cells (ok .whole) (sector-some (rowOf part .width)) in
       let f = job-fair j image (ok .right) cells (ok .whole) in
       let t = tally-is in
       let s = held j image (ok .right) cells (ok .whole) in
       let c = contents (sentOf j image cells) in
       let e = places in
+      let q = cells-left j image (ok .right) cells (ok .whole) in
       rw (eq-eqb (jobRefusal part (length cells) first image wp p) 0 accepted)
       (record {
-        holds = h .holds;
-        below = h .below;
-        above = h .above;
+        holds = rw q (image-left j image (ok .right) cells (ok .whole));
+        below = λ i l. rw q (others-left j image (ok .right) cells (ok .whole) i (inl l));
+        above = λ i l. rw q (others-left j image (ok .right) cells (ok .whole) i (inr l));
         rests = h .ready .rest;
         answer = refl;
         polls = rw t (f .polls);
@@ -114,7 +116,7 @@ module _ (part : ℕ) (cells : List ℕ) (first : ℕ) (image : List ℕ) (wp : 
   pub job-rivals : Rival part cells first image freshDevice (cyclesIn (sentOf j image cells))
   job-rivals =
       let s = held j image (ok .right) cells (ok .whole) in
-      let h = image-held j image (ok .right) cells (ok .whole) (sector-some (rowOf part .width)) in
+      let h = job-started j image (ok .right) cells (ok .whole) (sector-some (rowOf part .width)) in
       let e = world-plays part (world cells noneSent) (sentOf j image cells) in
       record {
         begins = fresh-idle;
@@ -122,7 +124,7 @@ module _ (part : ℕ) (cells : List ℕ) (first : ℕ) (image : List ℕ) (wp : 
         blocks = rw (s .begun) (s .blocks);
         chips = rw (s .begun) (s .chips);
         ends = rw (← e, h .ready .rest) fresh-idle;
-        holds = rw (← e) (h .holds);
+        holds = rw (← e) (rw (cells-left j image (ok .right) cells (ok .whole)) (image-left j image (ok .right) cells (ok .whole)));
       }
 
   -- and those table times are of the bill's erases and programs

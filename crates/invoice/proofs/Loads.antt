@@ -1,37 +1,30 @@
 -- What `load` hands back, reckoned from the job's operations alone: no cycle is played. By it the marked jobs are computed.
 use Prim.Native.Nat.{ℕ, zero, suc, _+_, _-_, _*_, _/_}
 use mathlib.Core.Path.{_≡_, refl, ap, _∙_}
-use mathlib.Core.Bool.{Bool, true, false}
-use mathlib.Core.List.{List, [], _∷_, _++_}
+use mathlib.Core.Bool.{Bool, true}
+use mathlib.Core.List.{List, [], _++_}
 use native.Mathlib.Omega.{arith}
 use borrow.Author.Tests.{eq-eqb}
 use lib.Dec.{ltb}
 use lib.ListN.{length, take, drop}
 use Rattle.parts.specs.Table.{rowOf}
-use Rattle.parts.proofs.Ranges.{sector-some}
 use Rattle.chip.specs.declared.device.Operation.{Operation}
-use Rattle.chip.specs.Device.{freshDevice, idle}
-use Rattle.chip.specs.Cycle.{Chip, chip}
-use Rattle.chip.specs.Trace.{play, perform}
-use Rattle.chip.proofs.Trace.{trace}
-use Rattle.chip.proofs.Idle.{fresh-idle}
+use Rattle.chip.specs.Trace.{perform}
 use Rattle.job.specs.declared.loader.Job.{Job}
 use Rattle.job.specs.declared.run.Tally.{Tally}
 use Rattle.job.specs.Total.{sumOf}
 use Rattle.job.specs.Refusal.{fitAll, jobRefusal}
-use Rattle.job.specs.Run.{world, noneSent, tally}
+use Rattle.job.specs.Run.{tally}
 use Rattle.job.specs.Sent.{sentOf}
 use Rattle.job.specs.Formulas.{tallyOf, N}
-use Rattle.job.specs.Bill.{jobOf, billOf, playedAll, Loaded, loadOf}
+use Rattle.job.specs.Bill.{jobOf, billOf, Loaded, loadOf}
 use Rattle.job.proofs.Counts.{job-fair}
 use Rattle.driver.specs.Machine.{confirmAfter}
 use Rattle.least.specs.LeastTime.{rising}
-use Rattle.invoice.specs.Started.{cyclesIn, many}
+use Rattle.invoice.specs.Started.{many}
 use Rattle.invoice.proofs.Listed.{carrying, sectoring, sectoringAll, operationsOf}
 use Rattle.invoice.proofs.Bits.{erasesIf, decision-is}
-use Rattle.invoice.proofs.Starts.{world-plays}
-use Rattle.invoice.proofs.Image.{image-held}
-use Rattle.invoice.proofs.Least.{fit-take, fit-drop, held}
+use Rattle.invoice.proofs.Least.{fit-take, fit-drop, held, cells-left}
 use Rattle.invoice.proofs.Billed.{ok, tally-is}
 
 -- ---- the job's operations, a sector's decision by how many of its cells have a bit that must rise: that is quick to compute
@@ -75,16 +68,6 @@ module _ (part : ℕ) (cells : List ℕ) (first : ℕ) (image : List ℕ) (wp : 
   abbrev os : List Operation
   os = operationsOf j image cells
 
-  cells-are : playedAll part cells first image wp p .cells ≡ perform (rowOf part) os cells
-  cells-are =
-      let w = ok part cells first image wp p accepted in
-      let s = held j image (w .right) cells (w .whole) in
-      let h = image-held j image (w .right) cells (w .whole) (sector-some (rowOf part .width)) in
-      let e = world-plays part (world cells noneSent) (sentOf j image cells) in
-      let rest : idle (play part (chip cells freshDevice) (cyclesIn (sentOf j image cells)) .device) ≡ true = rw (← e, h .ready .rest) fresh-idle in
-      ap (λ (h : Chip). h .cells) e
-      ∙ (trace part (cyclesIn (sentOf j image cells)) (chip cells freshDevice) (s .whole) fresh-idle rest ∙ ap (λ (os : List Operation). perform (rowOf part) os cells) (s .begun))
-
   counts-are : tallyOf (sentOf j image cells) ≡ counted j (many 1 os) (many 0 os)
   counts-are =
       let w = ok part cells first image wp p accepted in
@@ -101,7 +84,7 @@ module _ (part : ℕ) (cells : List ℕ) (first : ℕ) (image : List ℕ) (wp : 
   by-operations : loadOf part cells first image wp p ≡ reckonedBy j cells os
   unfolding loadOf
   by-operations =
-      rw (eq-eqb (jobRefusal part (length cells) first image wp p) 0 accepted, tally-is part cells first image wp p accepted, counts-are, cells-are)
+      rw (eq-eqb (jobRefusal part (length cells) first image wp p) 0 accepted, tally-is part cells first image wp p accepted, counts-are, cells-left j image (ok part cells first image wp p accepted .right) cells (ok part cells first image wp p accepted .whole))
 
   pub loads : loadOf part cells first image wp p ≡ reckoned j image cells
   loads = by-operations ∙ ap (reckonedBy j cells) (decides j (j .count / j .size) first (drop first cells) image (ok part cells first image wp p accepted .right .fits))

@@ -1,5 +1,5 @@
 -- Sent cycles that are in their places what their purposes say: then what is counted by purpose is there by place, in a list and in its first cycles.
-use Prim.Native.Nat.{ℕ, zero, suc, _+_}
+use Prim.Native.Nat.{ℕ, zero, suc}
 use mathlib.Core.Path.{_≡_, refl, ap}
 use mathlib.Core.List.{List, [], _∷_, map}
 use native.Mathlib.Omega.{arith}

@@ -27,7 +27,7 @@ use Rattle.job.specs.Refusal.{jobRefusal}
 use Rattle.job.specs.Run.{World, world, noneSent, playOf, runFrom, stopFrom, ended}
 use Rattle.job.specs.Sent.{sentOf}
 use Rattle.job.specs.Formulas.{N, operationTime}
-use Rattle.job.specs.Bill.{FullTimeFits, jobOf, fullOf, firstFew, billOf, billed, reported, played, playedAll, reportOf, loadOf}
+use Rattle.job.specs.Bill.{FullTimeFits, jobOf, firstFew, billOf, billed, reported, played, playedAll, reportOf, loadOf}
 use Rattle.job.proofs.Accepts.{Passed, passed, sector-most}
 use Rattle.job.proofs.Runs.{runs, never-stops-short}
 use Rattle.job.proofs.Counts.{length-most}

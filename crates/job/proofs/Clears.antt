@@ -13,7 +13,7 @@ use Rattle.parts.specs.Width.{valueOf, fitsIn}
 use Rattle.parts.proofs.Values.{fits-lt}
 use Rattle.job.specs.declared.search.Rise.{Rise}
 use Rattle.job.specs.declared.search.Rise.the-variants.{At, Nowhere}
-use Rattle.job.specs.declared.search.Decision.the-variants.{NoErase, SectorErase}
+use Rattle.job.specs.declared.search.Decision.the-variants.{NoErase}
 use Rattle.job.specs.Search.{riseIn, firstFound, riseFrom, decides, decisionOf}
 
 -- found and not found

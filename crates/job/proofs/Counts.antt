@@ -2,13 +2,13 @@
 use Prim.Native.Nat.{ℕ, zero, suc, zero-le, _+_, _*_, _/_, _≤_}
 use mathlib.Core.Path.{_≡_, refl, sym, ap, _∙_}
 use mathlib.Core.Bool.{Bool, true, false}
-use mathlib.Core.List.{List, [], _∷_, _++_, map}
-use native.Mathlib.Nat.{add-zero, zero-add, add-assoc, zero-mul, mul-add, le-refl, le-add-right as up, mul-assoc}
+use mathlib.Core.List.{List, [], _∷_, _++_}
+use native.Mathlib.Nat.{add-zero, zero-add, add-assoc, zero-mul, mul-add, le-refl, mul-assoc}
 use native.Mathlib.Nat.{mul-le-mul, mul-le-mul-left, mul-le-mul-right, le-mul-of-pos-right, div-add-mod', div-mul-le-self}
 use native.Mathlib.Omega.{arith}
 use borrow.Author.Tests.{leb-true}
 use lib.Dec.{eqb, leb}
-use lib.ListN.{length, take, drop, replicate, take-append-drop, length-append, length-take, length-drop, length-replicate}
+use lib.ListN.{length, take, drop, replicate, length-append, length-take, length-drop, length-replicate}
 use Rattle.parts.specs.Pick.{pick}
 use Rattle.parts.specs.Width.{valueOf, blankOf, sectorSize}
 use Rattle.parts.specs.Table.{lines, noLine, rowFrom, rowOf, partRefusal}
@@ -20,7 +20,6 @@ use Rattle.parts.proofs.Rounding.{least}
 use Rattle.chip.specs.declared.cycle.Action.{Action}
 use Rattle.chip.specs.Cycle.{cycle}
 use Rattle.driver.specs.Writes.{writesOf}
-use Rattle.driver.specs.Machine.{confirmAfter}
 use Rattle.job.specs.declared.loader.Job.{Job}
 use Rattle.job.specs.declared.loader.Purpose.{Purpose}
 use Rattle.job.specs.declared.loader.Purpose.the-variants.{Scan, Lead, Begin, Poll, Confirm}
@@ -82,22 +81,6 @@ tally-append (s ∷ L) M =
     let t = countedOf noTally (s .purpose) (s .cycle .elapsed) in
     ap (plus t) (tally-append L M) ∙ sym (plus-plus t (tallyOf L) (tallyOf M))
 
--- counts none of which is above another's
-pub record AtMost (t u : Tally) : Type 0 where
-  pub erases : t .erases ≤ u .erases
-  pub programs : t .programs ≤ u .programs
-  pub polls : t .polls ≤ u .polls
-  pub scans : t .scans ≤ u .scans
-  pub confirms : t .confirms ≤ u .confirms
-  pub time : t .time ≤ u .time
-
--- the first k cycles count no more than all
-pub take-most : (k : ℕ) (L : List Sent) → AtMost (tallyOf (take k L)) (tallyOf L)
-take-most k L = rw (sym (ap tallyOf (take-append-drop k L)) ∙ tally-append (take k L) (drop k L)) (more (tallyOf (take k L)) (tallyOf (drop k L)))
-  where
-    more : (t u : Tally) → AtMost t (plus t u)
-    more t u = record { erases = up _ _; programs = up _ _; polls = up _ _; scans = up _ _; confirms = up _ _; time = up _ _ }
-
 -- ---- an operation, and reads
 -- n polls, e µs each
 polls-tally : (n e : ℕ) (wp : Bool) (a : Action) → tallyOf (replicate n (sent Poll (cycle e wp a))) ≡ tally 0 0 n 0 0 (n * e)
@@ -118,14 +101,6 @@ module _ (j : Job) where
   pub erase-tally : (a x : ℕ) → tallyOf (operated j 1 a x) ≡ tally 1 0 (N j 1) 0 1 (operationTime j 1)
   unfolding operated writesOf tallyOf
   erase-tally a x = simp (tally-append, polls-tally, zero-add, add-zero)
-
-  -- n reads
-  pub scans-tally : (a n : ℕ) → tallyOf (scans j a n) ≡ tally 0 0 0 n 0 0
-  unfolding scans tallyOf
-  scans-tally a zero = refl
-  scans-tally a (suc n) =
-      let i : 1 + n ≡ suc n = omega arith in
-      simp (scans-tally (a + 1) n, i)
 
   -- ---- the formulas
   -- they hold of a list
@@ -289,10 +264,6 @@ module _ (j : Job) (image : List ℕ) (R : AcceptedJob j image) (cells : List �
       wider j (sentOf j image cells) (n * (j .size + j .size)) n (n * j .size) (j .count + j .count) n (j .count)
       (sectors-fair j n (j .first) (drop (j .first) cells) image l (omega (arith, R .count)))
       (omega (arith, mul-add n (j .size) (j .size))) (le-refl _) (omega arith)
-
-  -- the cells of erased sectors are cells of the range
-  pub erased-most : tallyOf (sentOf j image cells) .erases * j .size ≤ j .count
-  erased-most = omega (arith, mul-le-mul-right (j .size) (job-fair .erases), div-mul-le-self (j .count) (j .size))
 
   -- no more is spent than if every sector were erased and every cell programmed
   pub time-most : tallyOf (sentOf j image cells) .time ≤ j .count / j .size * operationTime j 1 + j .count * operationTime j 0
