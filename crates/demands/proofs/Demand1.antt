@@ -30,12 +30,12 @@ use Rattle.chip.specs.declared.device.Device.{Device}
 use Rattle.chip.specs.declared.cycle.Action.{Action}
 use Rattle.chip.specs.declared.cycle.Action.the-variants.{Read, Write, Idle, Cut}
 use Rattle.chip.specs.declared.cycle.Cycle.{Cycle}
-use Rattle.chip.specs.Cycle.{Chip, chip, Outcome, reply, cycleRefusal, passed, actedOf, acceptedOf, cycleOf}
+use Rattle.chip.specs.Cycle.{Chip, chip, Outcome, reply, cycleRefusal, afterTime, actedOf, acceptedOf, cycleOf}
 use Rattle.chip.proofs.bus_cycle.Kinds as bus-kinds
 use Rattle.chip.proofs.bus_cycle.Reads as bus-reads
 use Rattle.driver.specs.declared.machine.Started.{Started}
 use Rattle.driver.specs.declared.writes.Writes.{Writes}
-use Rattle.driver.specs.declared.writes.Write.{Write as Written}
+use Rattle.commands.specs.declared.write.Write.{Write as Written}
 use Rattle.driver.specs.declared.writes.Kth.{Kth}
 use Rattle.driver.specs.declared.machine.Driver.{Driver}
 use Rattle.driver.specs.declared.machine.Step.{Step}
@@ -114,7 +114,7 @@ module _ (κs : Lfts 1) (a : Dens κs bus-kinds.ps) (x : resT bus-kinds.r κs .D
   unfolding cycleOf acceptedOf
   bus-cycle-refuses =
       rw (promise .0, promise .1)
-      (by-test (λ (o : Outcome). o .reply .answer) bus-refusal _ _ (acted-answers _ (passed _ (chip cells device) (cycle .elapsed)) (cycle .wp) (cycle .action)) refl)
+      (by-test (λ (o : Outcome). o .reply .answer) bus-refusal _ _ (acted-answers _ (afterTime _ (chip cells device) (cycle .elapsed)) (cycle .wp) (cycle .action)) refl)
 
 -- ---- the driver's start and a command's writes: 1, 10 (start), 14, 3, 4
 module _ (κs : Lfts 0) (a : Dens κs start-kinds.ps) (x : resT start-kinds.r κs .Denot) (s : AtExit (endedOf 0 start-kinds.ps start-kinds.r) κs) (promise : start-reads.Post κs a x s) where

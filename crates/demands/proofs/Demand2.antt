@@ -23,8 +23,9 @@ use Rattle.chip.specs.declared.cycle.Action.the-variants.{Read}
 use Rattle.chip.specs.declared.cycle.Cycle.{Cycle}
 use Rattle.chip.specs.Device.{busyWith, device, freshDevice, idle}
 use Rattle.chip.specs.Sequence.{ignored}
-use Rattle.chip.specs.Cycle.{Chip, chip, Outcome, cycleRefusal, passed, actedOf, acceptedOf, cycleOf}
+use Rattle.chip.specs.Cycle.{Chip, chip, Outcome, cycleRefusal, afterTime, actedOf, acceptedOf, cycleOf}
 use Rattle.chip.specs.Trace.{play, startedIn}
+use Rattle.chip.proofs.Started.{started-append, reads-start, one-read-starts}
 use Rattle.chip.proofs.bus_cycle.Kinds as bus-kinds
 use Rattle.chip.proofs.bus_cycle.Reads as bus-reads
 use Rattle.driver.specs.Refusals.{commandRefusal, startRefusal}
@@ -34,7 +35,6 @@ use Rattle.driver.specs.Machine.{addressOf, bitSeven, bitWanted, valueWanted, b
 use Rattle.driver.specs.Talk.{cycle, writeCycles, operationOf, completed, shownAfter, Told, told, talk, heard}
 use Rattle.driver.proofs.Asked.{asking, begun}
 use Rattle.driver.proofs.Theorems.{writes-start, performs, gives-up, succeeds, Ended, always-ends}
-use Rattle.invoice.proofs.Starts.{started-append, reads-start, one-read-starts}
 use Rattle.driver.proofs.start.Kinds as start-kinds
 use Rattle.driver.proofs.start.Reads as start-reads
 use Rattle.driver.proofs.command_writes.Kinds as writes-kinds
@@ -42,10 +42,10 @@ use Rattle.driver.proofs.command_writes.Reads as writes-reads
 
 -- ---- one bus cycle: bus_cycle(part, cells, device, cycle)
 module _ (κs : Lfts 1) (a : Dens κs bus-kinds.ps) (x : resT bus-kinds.r κs .Denot) (s : AtExit (endedOf 1 bus-kinds.ps bus-kinds.r) κs) (promise : bus-reads.Post κs a x s) where
-  -- Of a cycle that is not refused, first time passes (`passed`), then the cycle acts (`actedOf`): that gives the value, the state and the cells.
+  -- Of a cycle that is not refused, first time passes (`afterTime`), then the cycle acts (`actedOf`): that gives the value, the state and the cells.
   pub cycle-acts : cycleRefusal (a .0) (length (a .1 .0 .now)) (a .1 .1 .0) (a .1 .1 .1 .0 .action) ≡ 0
       → _≡_ {A = Outcome} (record { cells = s .1 .0 .now; reply = x })
-      (actedOf (rowOf (a .0)) (passed (rowOf (a .0)) (chip (a .1 .0 .now) (a .1 .1 .0)) (a .1 .1 .1 .0 .elapsed)) (a .1 .1 .1 .0 .wp) (a .1 .1 .1 .0 .action))
+      (actedOf (rowOf (a .0)) (afterTime (rowOf (a .0)) (chip (a .1 .0 .now) (a .1 .1 .0)) (a .1 .1 .1 .0 .elapsed)) (a .1 .1 .1 .0 .wp) (a .1 .1 .1 .0 .action))
   unfolding cycleOf acceptedOf
   cycle-acts accepted =
       rw (promise .0, promise .1, eq-eqb (cycleRefusal (a .0) (length (a .1 .0 .now)) (a .1 .1 .0) (a .1 .1 .1 .0 .action)) 0 accepted)

@@ -8,6 +8,7 @@ pub use Rattle.parts.proofs.Determined.{
   fits-unique,
   sector-size-unique,
   sector-of-unique,
+  has-blocks-unique,
   block-of-unique,
   protected-range-unique,
   holds-unique,
@@ -15,6 +16,7 @@ pub use Rattle.parts.proofs.Determined.{
   has-command-unique,
   rounded-up-unique,
 }
+pub use Rattle.commands.proofs.Determined.{effect-of-unique}
 pub use Rattle.chip.proofs.Determined.{fresh-unique, bus-cycle-unique}
 pub use Rattle.driver.proofs.Determined.{start-unique, step-unique, command-writes-unique, kth-write-unique}
 pub use Rattle.job.proofs.Determined.{load-unique, load-first-unique}

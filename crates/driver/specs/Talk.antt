@@ -1,6 +1,6 @@
 -- A driver against the model of the chip, and against any replies.
 use Prim.Native.Nat.{ℕ, zero, suc, _+_}
-use mathlib.Core.Bool.{Bool, true}
+use mathlib.Core.Bool.{Bool}
 use mathlib.Core.List.{List, [], _∷_, map}
 use lib.Dec.{ltb}
 use lib.ListN.{getD}
@@ -15,7 +15,7 @@ use Rattle.chip.specs.Operation.{completeOn}
 use Rattle.chip.specs.Sequence.{newOperation}
 use Rattle.chip.specs.Cycle.{Chip, cycleOf}
 use Rattle.chip.specs.Trace.{after}
-use Rattle.driver.specs.declared.writes.Write.{Write as Written}
+use Rattle.commands.specs.declared.write.Write.{Write as Written}
 use Rattle.driver.specs.declared.machine.Next.the-variants.{Nothing, Send}
 use Rattle.driver.specs.declared.machine.Step.{Step}
 use Rattle.driver.specs.Writes.{lastWrite}

@@ -6,7 +6,7 @@ use lib.ListN.{getD, take, replicate}
 use Rattle.parts.specs.Pick.{pick}
 use Rattle.parts.specs.Table.{rowOf}
 use Rattle.parts.specs.declared.table.Row.{Row}
-use Rattle.driver.specs.declared.writes.Write.{Write}
+use Rattle.commands.specs.declared.write.Write.{Write}
 use Rattle.driver.specs.declared.writes.Writes.{Writes}
 use Rattle.driver.specs.declared.writes.Kth.{Kth}
 use Rattle.driver.specs.Refusals.{commandRefusal}

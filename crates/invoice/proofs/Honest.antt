@@ -13,7 +13,7 @@ use Rattle.parts.proofs.Every.{apart, both, unless, split, every}
 use Rattle.chip.specs.declared.cycle.Action.{Action}
 use Rattle.chip.specs.declared.cycle.Action.the-variants.{Read, Write, Idle, Cut}
 use Rattle.chip.specs.declared.cycle.Cycle.{Cycle}
-use Rattle.driver.specs.declared.writes.Write.{Write as Written}
+use Rattle.commands.specs.declared.write.Write.{Write as Written}
 use Rattle.driver.specs.Writes.{writesOf}
 use Rattle.job.specs.declared.loader.Job.{Job}
 use Rattle.job.specs.declared.loader.Purpose.{Purpose}

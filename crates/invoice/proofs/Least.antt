@@ -26,10 +26,10 @@ use Rattle.chip.specs.declared.cycle.Cycle.{Cycle}
 use Rattle.chip.specs.Device.{freshDevice, idle}
 use Rattle.chip.specs.Operation.{cellsOf, finished, completeOn}
 use Rattle.chip.specs.Cycle.{chip}
-use Rattle.chip.specs.Trace.{play, startedIn, uncut, perform}
+use Rattle.chip.specs.Trace.{play, startedIn, uncut, completeAll}
 use Rattle.chip.proofs.Leaves.{stored}
 use Rattle.chip.proofs.Trace.{trace}
-use Rattle.chip.proofs.Ranges.{Startable, All, started-all}
+use Rattle.chip.proofs.Started.{Startable, All, started-all}
 use Rattle.driver.specs.Writes.{lastWrite}
 use Rattle.driver.specs.Talk.{operationOf}
 use Rattle.job.specs.declared.loader.Job.{Job}
@@ -38,7 +38,7 @@ use Rattle.job.specs.Run.{world, noneSent}
 use Rattle.job.specs.Sent.{sentOf}
 use Rattle.job.specs.Formulas.{tallyOf}
 use Rattle.job.proofs.Right.{Right, fit-at}
-use Rattle.least.specs.Operations.{Op, Program, Erase, programmed, blanks, erased, perform as performed, performAll, Holds, costAll}
+use Rattle.least.specs.Operations.{Op, Program, Erase, programmed, blanks, erased, perform, performAll, Holds, costAll}
 use Rattle.least.specs.LeastTime.{differs, rising}
 use Rattle.least.specs.Job.{programs, sectorOps, sectorsOps, jobOps}
 use Rattle.least.proofs.Bound.{performAll-length}
@@ -85,9 +85,9 @@ module _ (r : Row) where
   op-erase o e = rw e
 
   one-is : (o : Operation) (cells : List ℕ) → Startable r o → (k : ℕ) → o .kind ≡ k → k ≤ 1 → length cells ≡ r .cells
-      → completeOn r o cells ≡ performed w S (opOf S o) cells
-  one-is o cells s zero e le whole = program-is o cells s e whole ∙ ap (λ (p : Op). performed w S p cells) (sym (op-program o e))
-  one-is o cells s (suc zero) e le whole = erase-is o cells e ∙ ap (λ (p : Op). performed w S p cells) (sym (op-erase o e))
+      → completeOn r o cells ≡ perform w S (opOf S o) cells
+  one-is o cells s zero e le whole = program-is o cells s e whole ∙ ap (λ (p : Op). perform w S p cells) (sym (op-program o e))
+  one-is o cells s (suc zero) e le whole = erase-is o cells e ∙ ap (λ (p : Op). perform w S p cells) (sym (op-erase o e))
   one-is o cells s (suc (suc k)) e le whole = absurd (omega arith)
 
   cost-is : (o : Operation) (k : ℕ) → o .kind ≡ k → k ≤ 1 → costAll (timeOf r 0) (timeOf r 1) (opOf S o ∷ []) ≡ timeOf r (o .kind) + 0
@@ -107,7 +107,7 @@ module _ (r : Row) where
 
   -- performed in order, and their times
   all-is : (os : List Operation) → All (Startable r) os → many 2 os ≡ 0 → many 3 os ≡ 0 → (cells : List ℕ) → length cells ≡ r .cells
-      → (perform r os cells ≡ performAll w S (map (opOf S) os) cells) × (costAll (timeOf r 0) (timeOf r 1) (map (opOf S) os) ≡ tableTime r os)
+      → (completeAll r os cells ≡ performAll w S (map (opOf S) os) cells) × (costAll (timeOf r 0) (timeOf r 1) (map (opOf S) os) ≡ tableTime r os)
   all-is [] a b c cells whole = (refl, refl)
   all-is (o ∷ os) a b c cells whole =
       let k = few-kinds o os (a .0) b c in

@@ -1,7 +1,7 @@
 -- What `load` hands back, reckoned from the job's operations alone: no cycle is played. By it the marked jobs are computed.
 use Prim.Native.Nat.{ℕ, zero, suc, _+_, _-_, _*_, _/_}
 use mathlib.Core.Path.{_≡_, refl, ap, _∙_}
-use mathlib.Core.Bool.{Bool, true, false}
+use mathlib.Core.Bool.{Bool, true}
 use mathlib.Core.List.{List, [], _∷_, _++_}
 use native.Mathlib.Omega.{arith}
 use borrow.Author.Tests.{eq-eqb}
@@ -13,7 +13,7 @@ use Rattle.parts.proofs.Ranges.{sector-some}
 use Rattle.chip.specs.declared.device.Operation.{Operation}
 use Rattle.chip.specs.Device.{freshDevice, idle}
 use Rattle.chip.specs.Cycle.{Chip, chip}
-use Rattle.chip.specs.Trace.{play, perform}
+use Rattle.chip.specs.Trace.{play, completeAll}
 use Rattle.chip.proofs.Trace.{trace}
 use Rattle.chip.proofs.Idle.{fresh-idle}
 use Rattle.job.specs.declared.loader.Job.{Job}
@@ -63,7 +63,7 @@ billedAt j os after =
     record { cells = after; bill = billOf j (counted j (many 1 os) (many 0 os)) (sumOf (rowOf (j .part) .width) (take (j .count) (drop (j .first) after))) 0 }
 
 abbrev pub reckonedBy : Job → List ℕ → List Operation → Loaded
-reckonedBy j cells os = billedAt j os (perform (rowOf (j .part)) os cells)
+reckonedBy j cells os = billedAt j os (completeAll (rowOf (j .part)) os cells)
 
 -- so a job is reckoned
 abbrev pub reckoned : Job → List ℕ → List ℕ → Loaded
@@ -76,7 +76,7 @@ module _ (part : ℕ) (cells : List ℕ) (first : ℕ) (image : List ℕ) (wp : 
   abbrev os : List Operation
   os = operationsOf j image cells
 
-  cells-are : playedAll part cells first image wp p .cells ≡ perform (rowOf part) os cells
+  cells-are : playedAll part cells first image wp p .cells ≡ completeAll (rowOf part) os cells
   cells-are =
       let w = ok part cells first image wp p accepted in
       let s = held j image (w .right) cells (w .whole) in
@@ -84,7 +84,7 @@ module _ (part : ℕ) (cells : List ℕ) (first : ℕ) (image : List ℕ) (wp : 
       let e = world-plays part (world cells noneSent) (sentOf j image cells) in
       let rest : idle (play part (chip cells freshDevice) (cyclesIn (sentOf j image cells)) .device) ≡ true = rw (← e, h .ready .rest) fresh-idle in
       ap (λ (h : Chip). h .cells) e
-      ∙ (trace part (cyclesIn (sentOf j image cells)) (chip cells freshDevice) (s .whole) fresh-idle rest ∙ ap (λ (os : List Operation). perform (rowOf part) os cells) (s .begun))
+      ∙ (trace part (cyclesIn (sentOf j image cells)) (chip cells freshDevice) (s .whole) fresh-idle rest ∙ ap (λ (os : List Operation). completeAll (rowOf part) os cells) (s .begun))
 
   counts-are : tallyOf (sentOf j image cells) ≡ counted j (many 1 os) (many 0 os)
   counts-are =

@@ -8,7 +8,7 @@ use Rattle.parts.specs.Pick.{pick}
 use Rattle.parts.specs.Width.{valueOf, blankOf}
 use Rattle.parts.specs.Time.{pollsOf}
 use Rattle.chip.specs.declared.cycle.Action.the-variants.{Read, Write}
-use Rattle.driver.specs.declared.writes.Write.{Write as Written}
+use Rattle.commands.specs.declared.write.Write.{Write as Written}
 use Rattle.driver.specs.Writes.{writesOf}
 use Rattle.job.specs.declared.loader.Job.{Job}
 use Rattle.job.specs.declared.loader.Purpose.the-variants.{Scan, Lead, Begin, Poll, Confirm}

@@ -25,7 +25,7 @@ impl Row {
             return false;
         }
         if command == 2 {
-            return 0 < self.block;
+            return self.has_blocks();
         }
         true
     }
