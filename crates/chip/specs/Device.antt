@@ -7,8 +7,8 @@ use Rattle.parts.specs.Pick.{pick}
 use Rattle.parts.specs.Width.{fitsIn}
 use Rattle.parts.specs.Time.{hasCommand, timeOf}
 use Rattle.parts.specs.declared.table.Row.{Row}
-use Rattle.chip.specs.declared.device.Mode.{Mode}
-use Rattle.chip.specs.declared.device.Mode.the-variants.{ReadMode, Identification}
+use Rattle.commands.specs.declared.effect.Mode.{Mode}
+use Rattle.commands.specs.declared.effect.Mode.the-variants.{ReadMode, Identification}
 use Rattle.chip.specs.declared.device.Operation.{Operation}
 use Rattle.chip.specs.declared.device.Core.{Core}
 use Rattle.chip.specs.declared.device.Device.{Device}

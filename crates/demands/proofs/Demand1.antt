@@ -17,7 +17,7 @@ use Rattle.parts.specs.declared.table.Found.{Found}
 use Rattle.parts.proofs.Every.{split}
 use Rattle.chip.specs.declared.cycle.Action.{Action}
 use Rattle.chip.specs.declared.cycle.Action.the-variants.{Read, Write, Idle, Cut}
-use Rattle.chip.specs.Cycle.{Chip, chip, Outcome, passed, actedOf, acceptedOf, cycleOf}
+use Rattle.chip.specs.Cycle.{Chip, chip, Outcome, afterTime, actedOf, acceptedOf, cycleOf}
 use Rattle.driver.specs.declared.machine.Started.{Started}
 use Rattle.driver.specs.declared.writes.Writes.{Writes}
 use Rattle.driver.specs.declared.writes.Kth.{Kth}
@@ -128,7 +128,7 @@ demand-1 =
     record {
       bus-cycle-refuses = λ c. let g = onBus c in
           rw (c .promise .0, c .promise .1)
-          (by-test (λ (o : Outcome). o .reply .answer) (busRefusal g) _ _ (acted-answers _ (passed _ (chip (g .cells) (g .device)) (g .cycle .elapsed)) (g .cycle .wp) (g .cycle .action)) refl);
+          (by-test (λ (o : Outcome). o .reply .answer) (busRefusal g) _ _ (acted-answers _ (afterTime _ (chip (g .cells) (g .device)) (g .cycle .elapsed)) (g .cycle .wp) (g .cycle .action)) refl);
       start-refuses = λ c. rw (c .promise) (by-test (λ (t : Started). t .answer) (refusedStart (toStart (c .given))) _ _ refl refl);
       start-writing-refuses = λ c. let g = toStart (c .given) in rw (c .promise) (starts-refuse (g .part) (g .command) (g .address) (g .word) (g .p));
       step-refuses = step-refuses;

@@ -21,6 +21,7 @@ use Rattle.chip.specs.declared.cycle.Action.the-variants.{Read}
 use Rattle.chip.specs.declared.cycle.Cycle.{Cycle}
 use Rattle.chip.specs.Cycle.{cycle, Chip, chip, acceptedOf, cycleOf}
 use Rattle.chip.specs.Trace.{play, startedIn}
+use Rattle.chip.proofs.Started.{started-append, reads-start, one-read-starts}
 use Rattle.driver.specs.declared.machine.Driver.{Driver}
 use Rattle.driver.specs.declared.machine.Step.{Step}
 use Rattle.driver.specs.declared.machine.Phase.{Phase}
@@ -32,7 +33,6 @@ use Rattle.driver.specs.Machine.{addressOf, confirmAfter, bitSeven, bitWanted, 
 use Rattle.driver.specs.Talk.{writeCycles, shownAfter, Told, talk}
 use Rattle.driver.proofs.Asked.{asking, begun}
 use Rattle.driver.proofs.Theorems as Theorems
-use Rattle.invoice.proofs.Starts.{started-append, reads-start, one-read-starts}
 use Rattle.demands.specs.Calls.{onBus, busRefusal, toWrite, ToStart, toStart, refusedStart, StepCall, toStep}
 use Rattle.demands.specs.Demand2.{IdleUnprotected, operationAsked, polls, noRead, Demand2}
 

@@ -17,7 +17,8 @@ use Rattle.chip.specs.declared.device.Device.{Device}
 use Rattle.chip.specs.declared.cycle.Cycle.{Cycle}
 use Rattle.chip.specs.Device.{freshDevice, validOperation, coreInRange, stageInRange, deviceInRange}
 use Rattle.chip.specs.Operation.{cellsOf, completeOn, cutOn}
-use Rattle.chip.specs.Sequence.{effectOf, ignored, writtenOf}
+use Rattle.commands.specs.Commands.{effectOf}
+use Rattle.chip.specs.Sequence.{ignored, writtenOf}
 use Rattle.chip.specs.Cycle.{Chip, chip, Outcome, reply, actionRefusal, cycleRefusal, settledOf, readOf, cutOf, acceptedOf, cycleOf}
 use Rattle.chip.specs.Trace.{leaves, after}
 use Rattle.driver.specs.Writes.{lastWrite}

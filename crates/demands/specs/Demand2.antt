@@ -16,7 +16,7 @@ use Rattle.chip.specs.declared.device.Device.{Device}
 use Rattle.chip.specs.declared.device.Operation.{Operation}
 use Rattle.chip.specs.Device.{busyWith, device, freshDevice, idle}
 use Rattle.chip.specs.Sequence.{ignored}
-use Rattle.chip.specs.Cycle.{chip, passed, actedOf}
+use Rattle.chip.specs.Cycle.{chip, afterTime, actedOf}
 use Rattle.chip.specs.Trace.{play, startedIn}
 use Rattle.driver.specs.declared.machine.Phase.{Phase}
 use Rattle.driver.specs.declared.machine.Phase.the-variants.{Writing, Polling, Confirming, Done, GaveUp, Differs}
@@ -60,11 +60,11 @@ noRead GaveUp n = true
 noRead Differs n = true
 
 pub record Demand2 : Type 0 where
-  -- Of a bus cycle that is not refused, first time passes (`passed`), then the cycle acts (`actedOf`): that gives the
+  -- Of a bus cycle that is not refused, first time passes (`afterTime`), then the cycle acts (`actedOf`): that gives the
   -- value, the state and the cells.
   pub cycle-acts : (c : BusCall) → let g = onBus c in busRefusal g ≡ 0
       → let r = rowOf (g .part) in
-      busLeft c ≡ actedOf r (passed r (chip (g .cells) (g .device)) (g .cycle .elapsed)) (g .cycle .wp) (g .cycle .action)
+      busLeft c ≡ actedOf r (afterTime r (chip (g .cells) (g .device)) (g .cycle .elapsed)) (g .cycle .wp) (g .cycle .action)
   -- A command's writes, sent at 0 µs, leave the cells as they were and the device running the operation asked for, with its
   -- whole table time left.
   pub writes-run : (c : WritesCall) → let g = toWrite c in refusedWrites g ≡ 0

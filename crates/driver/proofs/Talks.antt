@@ -29,11 +29,11 @@ use Rattle.chip.specs.Operation.{cellsOf, completeOn}
 use Rattle.chip.specs.Sequence.{ignored}
 use Rattle.chip.specs.Cycle.{cycle, Chip, chip, Outcome, outcome, cycleOf, status, bit6}
 use Rattle.chip.specs.Trace.{leaves, after, play, startedBy, startedIn}
-use Rattle.chip.proofs.Accepted.{Valid, within-cells}
+use Rattle.chip.proofs.Accepted.{Valid, inside-cells}
 use Rattle.chip.proofs.Settled.{complete-length}
 use Rattle.chip.proofs.Idle.{idle-rests, idle-again}
 use Rattle.chip.proofs.Cases.{read-idle, read-busy, read-done}
-use Rattle.driver.specs.declared.writes.Write.{Write}
+use Rattle.commands.specs.declared.write.Write.{Write}
 use Rattle.driver.specs.declared.machine.Phase.{Phase}
 use Rattle.driver.specs.declared.machine.Phase.the-variants.{Writing, Polling, Confirming, Done, GaveUp, Differs}
 use Rattle.driver.specs.declared.machine.Driver.{Driver}
@@ -308,7 +308,7 @@ module _ (b : Driver) (accepted : startRefusal (b .part) (b .command) (b .addres
     done-whole =
         let o = operationOf r (b .command) (b .address) (b .«data») in
         let there = last-there (b .part) known (b .command) (b .address) (b .«data») (valid .asked .target) in
-        complete-length r o cells (rw whole (within-cells (b .part) known o (valid .asked .target .has) there)) ∙ whole
+        complete-length r o cells (rw whole (inside-cells (b .part) known o (valid .asked .target .has) there)) ∙ whole
 
     -- a read at rest shows the value
     reads : (e : ℕ) → cycleOf (b .part) done (device finished 0) (cycle e wp (Read at)) ≡ outcome done shown (device finished 0)

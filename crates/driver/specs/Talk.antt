@@ -14,7 +14,7 @@ use Rattle.chip.specs.Operation.{completeOn}
 use Rattle.chip.specs.Sequence.{newOperation}
 use Rattle.chip.specs.Cycle.{cycle, Chip, cycleOf}
 use Rattle.chip.specs.Trace.{after}
-use Rattle.driver.specs.declared.writes.Write.{Write as Written}
+use Rattle.commands.specs.declared.write.Write.{Write as Written}
 use Rattle.driver.specs.declared.machine.Phase.{Phase}
 use Rattle.driver.specs.declared.machine.Next.the-variants.{Nothing, Send}
 use Rattle.driver.specs.declared.machine.Step.{Step}

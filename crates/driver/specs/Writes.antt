@@ -7,7 +7,7 @@ use Rattle.parts.specs.Names.{PROGRAM, SECTOR, BLOCK, NO-ENTRY}
 use Rattle.parts.specs.Pick.{pick, _when_, _unless_, _else_, _orElse_}
 use Rattle.parts.specs.Table.{rowOf}
 use Rattle.parts.specs.declared.table.Row.{Row}
-use Rattle.driver.specs.declared.writes.Write.{Write}
+use Rattle.commands.specs.declared.write.Write.{Write}
 use Rattle.driver.specs.declared.writes.Writes.{Writes}
 use Rattle.driver.specs.declared.writes.Kth.{Kth}
 use Rattle.driver.specs.Refusals.{commandRefusal}

@@ -12,7 +12,6 @@ pub use machine::Step;
 pub use machine::start;
 pub use machine::start_writing;
 pub use writes::Kth;
-pub use writes::Write;
 pub use writes::Writes;
 pub use writes::command_writes;
 pub use writes::kth_write;

@@ -1,5 +1,6 @@
 // The writes of a command: plain values of U1, U2 and the codes.
 use crate::refusals::command_refusal;
+use commands::Write;
 use parts::Row;
 use parts::names::BLOCK;
 use parts::names::NO_ENTRY;
@@ -11,11 +12,6 @@ ghost use lib.Dec.{eqb};
 ghost use Rattle.parts.specs.Pick.{pick};
 ghost use Rattle.driver.specs.Fits.{CodesAndTimesFit};
 ghost use Rattle.driver.specs.Writes.{commandWrites, kthWrite, lastWrite, nthWrite, write, writeCount, writes, writesOf};
-
-pub struct Write {
-    pub address: u32,
-    pub data: u16,
-}
 
 // One command's writes: 0 or the refusal, how many they are, and the writes, unused places zero.
 pub struct Writes {

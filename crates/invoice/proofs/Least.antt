@@ -27,11 +27,11 @@ use Rattle.chip.specs.declared.cycle.Cycle.{Cycle}
 use Rattle.chip.specs.Device.{freshDevice, idle}
 use Rattle.chip.specs.Operation.{cellsOf, finished, completeOn}
 use Rattle.chip.specs.Cycle.{Chip, chip}
-use Rattle.chip.specs.Trace.{play, startedIn, uncut, perform}
+use Rattle.chip.specs.Trace.{play, startedIn, uncut, completeAll}
 use Rattle.chip.proofs.Leaves.{stored}
 use Rattle.chip.proofs.Idle.{fresh-idle}
 use Rattle.chip.proofs.Trace.{trace}
-use Rattle.chip.proofs.Ranges.{Startable, All, started-all}
+use Rattle.chip.proofs.Started.{Startable, All, started-all}
 use Rattle.driver.specs.Writes.{lastWrite}
 use Rattle.job.specs.declared.loader.Job.{Job}
 use Rattle.job.specs.Refusal.{fitAll}
@@ -108,7 +108,7 @@ module _ (r : Row) where
 
   -- one after the other, and their times
   all-is : (os : List Operation) → All (Startable r) os → many 2 os ≡ 0 → many 3 os ≡ 0 → (cells : List ℕ) → length cells ≡ r .cells
-      → (perform r os cells ≡ operateAll w S (map (opOf S) os) cells) × (costAll (timeOf r 0) (timeOf r 1) (map (opOf S) os) ≡ tableTime r os)
+      → (completeAll r os cells ≡ operateAll w S (map (opOf S) os) cells) × (costAll (timeOf r 0) (timeOf r 1) (map (opOf S) os) ≡ tableTime r os)
   all-is [] a b c cells whole = (refl, refl)
   all-is (o ∷ os) a b c cells whole =
       let k = few-kinds o os (a .0) b c in
@@ -239,13 +239,13 @@ module _ (j : Job) (image : List ℕ) (R : AcceptedJob j image) (cells : List �
   startable = rw (held .begun) at (started-all (j .part) (cyclesIn (sentOf j image cells)) (chip cells freshDevice))
 
   -- the cells that they leave are least's
-  pub cells-left : playOf (j .part) (world cells noneSent) (sentOf j image cells) .cells ≡ perform r (operationsOf j image cells) cells
+  pub cells-left : playOf (j .part) (world cells noneSent) (sentOf j image cells) .cells ≡ completeAll r (operationsOf j image cells) cells
   cells-left =
       let h = job-started j image R cells full (rw (R .size) (sector-some (r .width))) in
       let e = world-plays (j .part) (world cells noneSent) (sentOf j image cells) in
       let rest : idle (play (j .part) (chip cells freshDevice) (cyclesIn (sentOf j image cells)) .device) ≡ true = rw (← e, h .ready .rest) fresh-idle in
       ap (λ (h : Chip). h .cells) e ∙ (trace (j .part) (cyclesIn (sentOf j image cells)) (chip cells freshDevice) (held .whole) fresh-idle rest
-      ∙ ap (λ (os : List Operation). perform r os cells) (held .begun))
+      ∙ ap (λ (os : List Operation). completeAll r os cells) (held .begun))
 
   room : (j .first / size + j .count / size) * size ≤ length cells
   room = omega (arith, sectors-first, sectors-count, R .range, R .count)
@@ -253,17 +253,17 @@ module _ (j : Job) (image : List ℕ) (R : AcceptedJob j image) (cells : List �
   whole : length image ≡ j .count / size * size
   whole = sym sectors-count
 
-  after-is : perform r (operationsOf j image cells) cells ≡ afterJob (r .width) size (j .first / size) (j .count / size) cells image
+  after-is : completeAll r (operationsOf j image cells) cells ≡ afterJob (r .width) size (j .first / size) (j .count / size) cells image
   after-is = all-is r (operationsOf j image cells) startable (held .blocks) (held .chips) cells full .0 ∙ ap (λ (ops : List Op). operateAll (r .width) size ops cells) listed
 
   -- the range holds the image
-  pub image-left : (i : ℕ) → i < length image → valueOf (r .width) (getD (perform r (operationsOf j image cells) cells) (j .first + i) 0) ≡ getD image i 0
+  pub image-left : (i : ℕ) → i < length image → valueOf (r .width) (getD (completeAll r (operationsOf j image cells) cells) (j .first + i) 0) ≡ getD image i 0
   image-left i h =
       (rw (← after-is, sectors-first) at (job-holds (r .width) size (j .first / size) (j .count / size) cells image room whole i (omega (arith, sectors-count))))
       ∙ value-same (r .width) (getD image i 0) (fits-lt (r .width) (getD image i 0) (fit-at (r .width) image (R .fits) i h))
 
   -- every other cell is the word that it was
-  pub others-left : (i : ℕ) → (i < j .first) ⊎ (j .first + length image ≤ i) → getD (perform r (operationsOf j image cells) cells) i 0 ≡ getD cells i 0
+  pub others-left : (i : ℕ) → (i < j .first) ⊎ (j .first + length image ≤ i) → getD (completeAll r (operationsOf j image cells) cells) i 0 ≡ getD cells i 0
   others-left i h =
       let e : (j .first / size + j .count / size) * size ≡ j .first + length image = omega (arith, sectors-first, sectors-count) in
       (rw (← after-is, sectors-first, e) at (job-elsewhere (r .width) size (j .first / size) (j .count / size) cells image room whole .1 i)) h

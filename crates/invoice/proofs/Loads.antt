@@ -9,7 +9,7 @@ use lib.Dec.{ltb}
 use lib.ListN.{length, take, drop}
 use Rattle.parts.specs.Table.{rowOf}
 use Rattle.chip.specs.declared.device.Operation.{Operation}
-use Rattle.chip.specs.Trace.{perform}
+use Rattle.chip.specs.Trace.{completeAll}
 use Rattle.job.specs.declared.loader.Job.{Job}
 use Rattle.job.specs.declared.run.Tally.{Tally}
 use Rattle.job.specs.Total.{sumOf}
@@ -55,7 +55,7 @@ billedAt j os after =
     record { cells = after; bill = billOf j (counted j (many 1 os) (many 0 os)) (sumOf (rowOf (j .part) .width) (take (j .count) (drop (j .first) after))) 0 }
 
 abbrev pub reckonedBy : Job → List ℕ → List Operation → Loaded
-reckonedBy j cells os = billedAt j os (perform (rowOf (j .part)) os cells)
+reckonedBy j cells os = billedAt j os (completeAll (rowOf (j .part)) os cells)
 
 -- so a job is reckoned
 abbrev pub reckoned : Job → List ℕ → List ℕ → Loaded

@@ -10,17 +10,16 @@ use lib.Dec.{eqb}
 use lib.ListN.{length, replicate}
 use Rattle.parts.specs.Pick.{pick}
 use Rattle.parts.specs.Table.{rowOf}
-use Rattle.parts.proofs.Every.{both}
 use Rattle.parts.specs.Time.{pollsOf}
 use Rattle.chip.specs.declared.device.Operation.{Operation}
 use Rattle.chip.specs.declared.cycle.Action.the-variants.{Read}
 use Rattle.chip.specs.declared.cycle.Cycle.{Cycle}
 use Rattle.chip.specs.Device.{freshDevice, idle}
 use Rattle.chip.specs.Sequence.{ignored}
-use Rattle.chip.specs.Cycle.{cycle, Chip, chip, cycleRefusal}
-use Rattle.chip.specs.Trace.{after, play, startedBy, startedIn, uncutAction, uncut}
-use Rattle.chip.proofs.Bits.{pick-same}
-use Rattle.driver.specs.declared.writes.Write.{Write}
+use Rattle.chip.specs.Cycle.{cycle, Chip, chip}
+use Rattle.chip.specs.Trace.{after, play, startedIn, uncut}
+use Rattle.chip.proofs.Started.{started-append, read-starts, reads-start, one-read-starts, uncut-append}
+use Rattle.commands.specs.declared.write.Write.{Write}
 use Rattle.driver.specs.Writes.{writesOf, writeCount}
 use Rattle.driver.specs.Machine.{addressOf, confirmAfter}
 use Rattle.driver.specs.Talk.{writeCycles, operationOf, completed}
@@ -39,32 +38,7 @@ use Rattle.job.proofs.Counts.{tally-append, program-tally, erase-tally}
 use Rattle.invoice.specs.Started.{cyclesIn, many}
 use Rattle.invoice.proofs.Placed.{placedAs}
 
--- ---- lists of cycles
--- cycles in a row
-pub started-append : (part : ℕ) (h : Chip) (cs ds : List Cycle) → startedIn part h (cs ++ ds) ≡ startedIn part h cs ++ startedIn part (play part h cs) ds
-started-append part h [] ds = refl
-started-append part h (c ∷ cs) ds =
-    ap (λ (os : List Operation). startedBy part h c ++ os) (started-append part (after part h c) cs ds)
-    ∙ sym (append-assoc (startedBy part h c) (startedIn part (after part h c) cs) (startedIn part (play part (after part h c) cs) ds))
-
--- a read starts nothing
-pub read-starts : (part : ℕ) (h : Chip) (e : ℕ) (wp : Bool) (a : ℕ) → startedBy part h (cycle e wp (Read a)) ≡ []
-unfolding startedBy
-read-starts part h e wp a = pick-same (eqb (cycleRefusal part (length (h .cells)) (h .device) (Read a)) 0) []
-
--- nor do n reads in front of cycles that start nothing
-pub reads-start : (part n e : ℕ) (wp : Bool) (a : ℕ) (cs : List Cycle) → ((h : Chip) → startedIn part h cs ≡ []) → (h : Chip) → startedIn part h (replicate n (cycle e wp (Read a)) ++ cs) ≡ []
-reads-start part zero e wp a cs none h = none h
-reads-start part (suc n) e wp a cs none h = rw (read-starts part h e wp a) (reads-start part n e wp a cs none (after part h (cycle e wp (Read a))))
-
-pub one-read-starts : (part e : ℕ) (wp : Bool) (a : ℕ) (h : Chip) → startedIn part h (cycle e wp (Read a) ∷ []) ≡ []
-one-read-starts part e wp a h = rw (read-starts part h e wp a)
-
 -- ---- no cut
-uncut-append : (cs ds : List Cycle) → uncut cs ≡ true → uncut ds ≡ true → uncut (cs ++ ds) ≡ true
-uncut-append [] ds a b = b
-uncut-append (c ∷ cs) ds a b = let w = both (uncutAction (c .action)) (uncut cs) a in rw (w .0) (uncut-append cs ds (w .1) b)
-
 writes-uncut : (wp : Bool) (ws : List Write) → uncut (writeCycles wp ws) ≡ true
 writes-uncut wp [] = refl
 writes-uncut wp (w ∷ ws) = writes-uncut wp ws

@@ -14,7 +14,7 @@ use Rattle.chip.specs.Device.{freshDevice}
 use Rattle.chip.specs.Sequence.{ignored}
 use Rattle.chip.specs.Cycle.{cycle, Chip, chip}
 use Rattle.chip.proofs.Idle.{fresh-idle}
-use Rattle.driver.specs.declared.writes.Write.{Write as Written}
+use Rattle.commands.specs.declared.write.Write.{Write as Written}
 use Rattle.driver.specs.declared.machine.Phase.the-variants.{Polling, Done}
 use Rattle.driver.specs.declared.machine.Driver.{Driver}
 use Rattle.driver.specs.declared.machine.Step.{Step}

@@ -10,7 +10,7 @@ use Rattle.parts.specs.Width.{valueOf, blankOf}
 use Rattle.parts.specs.Time.{pollsOf}
 use Rattle.chip.specs.declared.cycle.Action.the-variants.{Read, Write}
 use Rattle.chip.specs.Cycle.{cycle}
-use Rattle.driver.specs.declared.writes.Write.{Write as Written}
+use Rattle.commands.specs.declared.write.Write.{Write as Written}
 use Rattle.driver.specs.Writes.{writesOf}
 use Rattle.driver.specs.Machine.{confirmAfter}
 use Rattle.job.specs.declared.loader.Job.{Job}

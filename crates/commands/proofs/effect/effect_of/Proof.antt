@@ -1,9 +1,9 @@
--- `chip::sequence::effect_of` meets its contract.
+-- `commands::effect::effect_of` meets its contract.
 use borrow.Author.Needs.{needs}
 use borrow.Author.Tests.{ne-eqb}
-use Rattle.chip.specs.Sequence.{effectOf}
-use Rattle.chip.proofs.sequence.effect_of.Statement.{statement}
-use Rattle.chip.proofs.sequence.effect_of.Tie as tie
+use Rattle.commands.specs.Commands.{effectOf}
+use Rattle.commands.proofs.effect.effect_of.Statement.{statement}
+use Rattle.commands.proofs.effect.effect_of.Tie as tie
 
 returns : tie.Need-returns
 unfolding effectOf

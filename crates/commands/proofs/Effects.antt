@@ -11,10 +11,10 @@ use Rattle.parts.specs.Span.{hasBlocks}
 use Rattle.parts.specs.Time.{hasCommand}
 use Rattle.parts.specs.declared.table.Row.{Row}
 use Rattle.parts.proofs.Every.{both, every, split}
-use Rattle.chip.specs.declared.device.Mode.{Mode}
-use Rattle.chip.specs.declared.sequence.Effect.{Effect}
-use Rattle.chip.specs.declared.sequence.Effect.the-variants.{Goes, Starts, Enters}
-use Rattle.chip.specs.Sequence.{Rule, broken, isWanted, firstMet, commands, effectOf}
+use Rattle.commands.specs.declared.effect.Mode.{Mode}
+use Rattle.commands.specs.declared.effect.Effect.{Effect}
+use Rattle.commands.specs.declared.effect.Effect.the-variants.{Goes, Starts, Enters}
+use Rattle.commands.specs.Commands.{Rule, broken, isWanted, firstMet, commands, effectOf}
 
 -- an effect that writes to the part can have
 abbrev possible : Row → Effect → Bool

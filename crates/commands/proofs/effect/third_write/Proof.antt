@@ -1,10 +1,10 @@
--- `chip::sequence::third_write` meets its contract.
+-- `commands::effect::third_write` meets its contract.
 use mathlib.Core.Path.{sym, _∙_}
 use borrow.Author.Needs.{needs}
-use Rattle.chip.specs.Sequence.{effectOf}
-use Rattle.chip.proofs.Bits.{pick-same}
-use Rattle.chip.proofs.sequence.third_write.Statement.{statement}
-use Rattle.chip.proofs.sequence.third_write.Tie as tie
+use Rattle.commands.specs.Commands.{effectOf}
+use Rattle.parts.proofs.Every.{pick-same}
+use Rattle.commands.proofs.effect.third_write.Statement.{statement}
+use Rattle.commands.proofs.effect.third_write.Tie as tie
 
 returns : tie.Need-returns
 unfolding effectOf

@@ -1,6 +1,6 @@
--- `chip::sequence::on` meets its contract.
-use Rattle.chip.proofs.sequence.on.Statement.{statement}
-use Rattle.chip.proofs.sequence.on.Tie as tie
+-- `commands::effect::on` meets its contract.
+use Rattle.commands.proofs.effect.on.Statement.{statement}
+use Rattle.commands.proofs.effect.on.Tie as tie
 
 returns : tie.Need-returns
 returns c = simp (c .if1 .taken)

@@ -1,10 +1,10 @@
--- `chip::sequence::last_write` meets its contract.
+-- `commands::effect::last_write` meets its contract.
 use mathlib.Core.Path.{sym, _∙_}
 use borrow.Author.Needs.{needs}
 use borrow.Author.Tests.{eq-eqb, ne-eqb}
-use Rattle.chip.specs.Sequence.{effectOf}
-use Rattle.chip.proofs.sequence.last_write.Statement.{statement}
-use Rattle.chip.proofs.sequence.last_write.Tie as tie
+use Rattle.commands.specs.Commands.{effectOf}
+use Rattle.commands.proofs.effect.last_write.Statement.{statement}
+use Rattle.commands.proofs.effect.last_write.Tie as tie
 
 returns : tie.Need-returns
 unfolding effectOf
