@@ -3,7 +3,7 @@ use Prim.Native.Nat.{ℕ, _+_, _≤_, _<_}
 use mathlib.Core.Path.{_≡_, refl}
 use mathlib.Core.Bool.{Bool, true, false}
 use native.Mathlib.Omega.{arith}
-use borrow.Author.Tests.{ltb-true, ltb-false, lt-ltb, le-ltb, eqb-true, eq-eqb}
+use borrow.Author.Tests.{ltb-true, ltb-false, lt-ltb, le-ltb, le-leb, eqb-true, eq-eqb}
 use lib.Dec.{eqb, ltb}
 use Rattle.parts.specs.Pick.{pick}
 use Rattle.parts.specs.Width.{fitsIn}
@@ -26,7 +26,7 @@ use Rattle.chip.specs.declared.cycle.Action.the-variants.{Read, Write}
 use Rattle.chip.specs.Device.{device, busy, reads, validOperation, coreInRange, stageInRange, deviceInRange}
 use Rattle.chip.specs.Operation.{cellsOf}
 use Rattle.chip.specs.Cycle.{actionRefusal, cycleRefusal}
-use Rattle.chip.specs.Sized.{Sized, Runs}
+use Rattle.chip.specs.Fits.{RowFitsWords, RunsWithin}
 use Rattle.chip.proofs.Bits.{pick-same}
 
 -- ---- an accepted cycle
@@ -102,14 +102,14 @@ stage-none k = pick-same (busy k) true
 
 pub stage-rests : (k : Core) (s : ℕ) → busy k ≡ false → s ≤ 6 → stageInRange k s ≡ true
 unfolding stageInRange
-stage-rests k s b h = simp (b, lt-ltb s 7 (omega arith))
+stage-rests k s b h = simp (b, le-leb s 6 h)
 
 pub stage-busy : (k : Core) (s : ℕ) → stageInRange k s ≡ true → busy k ≡ true → s ≡ 0
 unfolding stageInRange
 stage-busy k s i b = eqb-true s 0 (rw b at i)
 
 -- ---- a known part
-pub sized : (n : ℕ) → partRefusal n ≡ 0 → Sized (rowOf n)
+pub sized : (n : ℕ) → partRefusal n ≡ 0 → RowFitsWords (rowOf n)
 sized n k = record { narrow = width-most n k; compares = omega (arith, u1-compared n k); identifies = device-word n k }
 
 -- the cells of an operation lie among the part's
@@ -124,6 +124,6 @@ within-cells n k o c t =
     Within : Span → Type 0
     Within s = s .first + s .count ≤ rowOf n .cells
 
-pub runs : (n : ℕ) → partRefusal n ≡ 0 → (k : Core) (m : ℕ) → coreInRange (rowOf n) k ≡ true → m ≡ rowOf n .cells → Runs (rowOf n) k m
+pub runs : (n : ℕ) → partRefusal n ≡ 0 → (k : Core) (m : ℕ) → coreInRange (rowOf n) k ≡ true → m ≡ rowOf n .cells → RunsWithin (rowOf n) k m
 runs n known k m e w =
     record { within = λ b. let v = pending (rowOf n) k e b in omega (arith, within-cells n known (k .running) (v .command) (v .there)) }

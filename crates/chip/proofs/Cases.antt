@@ -17,13 +17,10 @@ use Rattle.chip.specs.declared.cycle.Cycle.{Cycle}
 use Rattle.chip.specs.Device.{withLeft, toggled, withRunning, atRest, busy, device, coreInRange, coreIdle}
 use Rattle.chip.specs.Operation.{completeOn}
 use Rattle.chip.specs.Sequence.{effectOf, afterEffect, writtenOf}
-use Rattle.chip.specs.Cycle.{chip, outcome, reply, settled, settledOf, status, readOf, actionRefusal, cycleRefusal, acceptedOf, cycleOf}
+use Rattle.chip.specs.Cycle.{cycle, chip, outcome, reply, settled, settledOf, status, readOf, actionRefusal, cycleRefusal, acceptedOf, cycleOf}
 use Rattle.chip.specs.Trace.{after, effectStarts, startedBy}
 use Rattle.chip.proofs.Accepted.{Accepted, accepting, Valid, valid-range, rest-range, in-range, stage-none, stage-rests}
 use Rattle.chip.proofs.Idle.{idle-rests, idle-reads, idle-range}
-
-abbrev pub cycle : ℕ → Bool → Action → Cycle
-cycle e wp a = record { elapsed = e; wp = wp; action = a }
 
 -- ---- accepted or refused
 pub accepted-cycle : (part : ℕ) (cells : List ℕ) (d : Device) (c : Cycle) → Accepted part (length cells) d (c .action) → cycleOf part cells d c ≡ acceptedOf (rowOf part) cells d c

@@ -26,7 +26,7 @@ use Rattle.chip.specs.declared.cycle.Shown.{Shown}
 use Rattle.chip.specs.Device.{toggled, inMode, withRunning, busyWith, freshCore, busy, device, withCore, stageInRange, deviceInRange}
 use Rattle.chip.specs.Sequence.{ignored, newOperation, afterEffect, writtenOf}
 use Rattle.chip.specs.Cycle.{Chip, Outcome, readOf, cutOf, actionRefusal, cycleRefusal, passed, actedOf, acceptedOf, cycleOf}
-use Rattle.chip.specs.Sized.{Runs}
+use Rattle.chip.specs.Fits.{RunsWithin}
 use Rattle.chip.specs.Trace.{after, play, effectStarts, actionStarts, startedBy, startedIn}
 use Rattle.chip.proofs.Accepted.{Accepted, accepted, Valid, pending, valid-range, rest-range, in-range, ranges, stage-none, stage-rests, write-there, runs}
 use Rattle.chip.proofs.Settled.{settled-length, passed-range, cut-length}
@@ -86,7 +86,7 @@ after-range part h c w =
     (acted-range (rowOf part) (passed (rowOf part) h (c .elapsed)) (c .wp) (c .action) (passed-range (rowOf part) h (c .elapsed) (w .state)) (w .reach))
 
 -- ---- no cell is gained or lost
-acted-length : (r : Row) (h : Chip) (wp : Bool) (a : Action) → Runs r (h .device .core) (length (h .cells)) → length (actedOf r h wp a .cells) ≡ length (h .cells)
+acted-length : (r : Row) (h : Chip) (wp : Bool) (a : Action) → RunsWithin r (h .device .core) (length (h .cells)) → length (actedOf r h wp a .cells) ≡ length (h .cells)
 unfolding cutOf
 acted-length r h wp (Read a) w = refl
 acted-length r h wp (Write a x) w = refl

@@ -19,7 +19,7 @@ use Rattle.chip.specs.declared.cycle.Reply.{Reply}
 use Rattle.chip.specs.Device.{withLeft, withRunning, atRest, busy, device, withCore, coreInRange, stageInRange, deviceInRange}
 use Rattle.chip.specs.Operation.{cellsOf, completeOn, cutOn, finished, scarred}
 use Rattle.chip.specs.Cycle.{Chip, chip, reply, Settled, settledOf, passed, actionRefusal, cycleRefusalOn, cycleRefusal, actedOf, acceptedOf, cycleOf}
-use Rattle.chip.specs.Sized.{Sized, Runs}
+use Rattle.chip.specs.Fits.{RowFitsWords, RunsWithin}
 use Rattle.chip.proofs.Over.{over-length}
 use Rattle.chip.proofs.Accepted.{accepted, pending, valid-range, rest-range, in-range, ranges, stage-none, stage-busy, sized, runs}
 
@@ -32,7 +32,7 @@ module _ (r : Row) (o : Operation) (cells : List ℕ) (h : cellsOf r o .first + 
   unfolding cutOn
   cut-length scar = over-length (scarred r o scar) (cellsOf r o) cells h
 
-pub settled-length : (r : Row) (cells : List ℕ) (k : Core) (e : ℕ) → Runs r k (length cells) → length (settledOf r cells k e .cells) ≡ length cells
+pub settled-length : (r : Row) (cells : List ℕ) (k : Core) (e : ℕ) → RunsWithin r k (length cells) → length (settledOf r cells k e .cells) ≡ length cells
 unfolding settledOf
 settled-length r cells k e w =
     split Kept (busy k) _ _ (λ b. split Kept (ltb e (k .running .left)) _ _ (λ _. refl) (λ _. complete-length r (k .running) cells (w .within b))) (λ _. refl)
@@ -77,7 +77,7 @@ module _ (part : ℕ) (f : Found) (cells cells′ : List ℕ) (d d′ : Device) 
   row : f .row ≡ rowOf part
   row = ap (λ (f : Found). f .row) found
 
-  pub ready-settle : Sized (f .row) × Runs (f .row) (d .core) (length cells)
+  pub ready-settle : RowFitsWords (f .row) × RunsWithin (f .row) (d .core) (length cells)
   ready-settle =
       let w = accepted part (length cells) d (c .action) zero in
       rw row (sized part (w .known), runs part (w .known) (d .core) (length cells) (ranges (rowOf part) d (w .state) .1) (w .whole))
@@ -86,7 +86,7 @@ module _ (part : ℕ) (f : Found) (cells cells′ : List ℕ) (d d′ : Device) 
     reached : chip cells′ d′ ≡ passed (f .row) (chip cells d) (c .elapsed)
     reached = ap₂ {A = List ℕ} {B = Device} {C = Chip} chip left (device ∙ ap (withCore d) core)
 
-    pub ready-act : Sized (f .row) × (Runs (f .row) (d′ .core) (length cells′) × ((f .row .cells ≡ length cells′) × (actionRefusal (f .row) (c .action) ≡ 0)))
+    pub ready-act : RowFitsWords (f .row) × (RunsWithin (f .row) (d′ .core) (length cells′) × ((f .row .cells ≡ length cells′) × (actionRefusal (f .row) (c .action) ≡ 0)))
     ready-act =
         let w = accepted part (length cells) d (c .action) zero in
         let whole : length cells′ ≡ rowOf part .cells = ap length left ∙ (settled-length (f .row) cells (d .core) (c .elapsed) (ready-settle .1) ∙ w .whole) in

@@ -24,6 +24,10 @@ use Rattle.chip.specs.Device.{withLeft, toggled, withRunning, atRest, bu
 use Rattle.chip.specs.Operation.{completeOn, cutOn}
 use Rattle.chip.specs.Sequence.{writtenOf}
 
+-- a cycle: the µs since the last one, the WP# level, and what it does
+abbrev pub cycle : ℕ → Bool → Action → Cycle
+cycle e wp a = record { elapsed = e; wp = wp; action = a }
+
 -- a chip: its cells and its device state
 pub record Chip : Type 0 where
   pub cells : List ℕ

@@ -1,5 +1,7 @@
 // The device state: its core, that is its mode and the operation that runs, and the stage of its write sequence.
 use parts::Row;
+use parts::names::NONE_BEGUN;
+use parts::names::SECOND_55H;
 ghost use mathlib.Core.Path.{_≡_};
 ghost use Rattle.chip.specs.Device.{atRest, busy, busyWith, coreInRange, deviceInRange, freshDevice, inMode, noOperation, reads, stageInRange, toggled, validOperation, withCore, withLeft, withRunning};
 
@@ -24,7 +26,7 @@ pub struct Core {
     pub running: Operation,
 }
 
-// Stages: 0 no sequence begun, 1 AAH, 2 55H, 3 armed by A0H, 4 after 80H, 5 AAH again, 6 55H again.
+// The stage is one of the seven of a write sequence (parts::names).
 pub struct Device {
     pub core: Core,
     pub stage: u32,
@@ -160,9 +162,9 @@ impl Core {
         ensures { λ r. ⌜ r ≡ stageInRange self stage ⌝ }
     {
         if self.is_busy() {
-            return stage == 0;
+            return stage == NONE_BEGUN;
         }
-        stage < 7
+        stage <= SECOND_55H
     }
 }
 
@@ -197,5 +199,8 @@ pub fn fresh() -> Device
         mode: Mode::ReadMode,
         running: no_operation(),
     };
-    Device { core, stage: 0 }
+    Device {
+        core,
+        stage: NONE_BEGUN,
+    }
 }

@@ -4,14 +4,22 @@ use crate::Device;
 use crate::Mode;
 use crate::Operation;
 use parts::Row;
+use parts::names::ARMED;
 use parts::names::BLOCK;
 use parts::names::CHIP;
+use parts::names::FIRST_55H;
+use parts::names::FIRST_AAH;
+use parts::names::GONE_ON;
+use parts::names::NONE_BEGUN;
 use parts::names::PROGRAM;
+use parts::names::SECOND_55H;
+use parts::names::SECOND_AAH;
 use parts::names::SECTOR;
 ghost use mathlib.Core.Path.{_≡_};
+ghost use Rattle.parts.specs.Names.{FIRST-55H, SECOND-55H};
 ghost use Rattle.parts.specs.Pick.{pick};
 ghost use Rattle.chip.specs.Sequence.{AtU1, AtU2, blockErase, broken, coreAfter, effectOf, ignored, isWanted, stageAfter, writtenOf};
-ghost use Rattle.chip.specs.Sized.{Sized};
+ghost use Rattle.chip.specs.Fits.{RowFitsWords};
 
 // What follows: the sequence goes on to a stage, a command's operation starts, or a mode is entered.
 pub enum Effect {
@@ -25,7 +33,7 @@ const BROKEN: Effect = Effect::Enters(Mode::ReadMode);
 
 // Whether a write is a byte at U1.
 fn at_u1(row: Row, a: u32, x: u16, byte: u32) -> bool
-    requires { ⌜ Sized row ⌝ }
+    requires { ⌜ RowFitsWords row ⌝ }
     ensures { λ r. ⌜ r ≡ isWanted row a x (AtU1 byte) ⌝ }
 {
     if a % row.compared == row.u1 {
@@ -36,7 +44,7 @@ fn at_u1(row: Row, a: u32, x: u16, byte: u32) -> bool
 
 // Whether a write is a byte at U2.
 fn at_u2(row: Row, a: u32, x: u16, byte: u32) -> bool
-    requires { ⌜ Sized row ⌝ }
+    requires { ⌜ RowFitsWords row ⌝ }
     ensures { λ r. ⌜ r ≡ isWanted row a x (AtU2 byte) ⌝ }
 {
     if a % row.compared == row.u2 {
@@ -57,14 +65,14 @@ fn on(met: bool, stage: u32) -> Effect
 
 // The third write, after 55H.
 fn third_write(row: Row, a: u32, x: u16) -> Effect
-    requires { ⌜ Sized row ⌝ }
-    ensures { λ r. ⌜ r ≡ effectOf row 2 a x ⌝ }
+    requires { ⌜ RowFitsWords row ⌝ }
+    ensures { λ r. ⌜ r ≡ effectOf row FIRST-55H a x ⌝ }
 {
     if at_u1(row, a, x, 0xa0) {
-        return Effect::Goes(3);
+        return Effect::Goes(ARMED);
     }
     if at_u1(row, a, x, 0x80) {
-        return Effect::Goes(4);
+        return Effect::Goes(GONE_ON);
     }
     if at_u1(row, a, x, 0x90) {
         return Effect::Enters(Mode::Identification);
@@ -84,8 +92,8 @@ fn block_erase(row: Row) -> Effect
 
 // The last write of an erase, after the second 55H.
 fn last_write(row: Row, a: u32, x: u16) -> Effect
-    requires { ⌜ Sized row ⌝ }
-    ensures { λ r. ⌜ r ≡ effectOf row 6 a x ⌝ }
+    requires { ⌜ RowFitsWords row ⌝ }
+    ensures { λ r. ⌜ r ≡ effectOf row SECOND-55H a x ⌝ }
 {
     let byte = x as u32 % 256;
     if byte == row.sector_code {
@@ -102,17 +110,17 @@ fn last_write(row: Row, a: u32, x: u16) -> Effect
 
 // What follows from a write at a stage.
 fn effect_of(row: Row, stage: u32, a: u32, x: u16) -> Effect
-    requires { ⌜ Sized row ⌝ }
+    requires { ⌜ RowFitsWords row ⌝ }
     ensures { λ r. ⌜ r ≡ effectOf row stage a x ⌝ }
 {
     match stage {
-        0 => on(at_u1(row, a, x, 0xaa), 1),
-        1 => on(at_u2(row, a, x, 0x55), 2),
-        2 => third_write(row, a, x),
-        3 => Effect::Starts(PROGRAM),
-        4 => on(at_u1(row, a, x, 0xaa), 5),
-        5 => on(at_u2(row, a, x, 0x55), 6),
-        6 => last_write(row, a, x),
+        NONE_BEGUN => on(at_u1(row, a, x, 0xaa), FIRST_AAH),
+        FIRST_AAH => on(at_u2(row, a, x, 0x55), FIRST_55H),
+        FIRST_55H => third_write(row, a, x),
+        ARMED => Effect::Starts(PROGRAM),
+        GONE_ON => on(at_u1(row, a, x, 0xaa), SECOND_AAH),
+        SECOND_AAH => on(at_u2(row, a, x, 0x55), SECOND_55H),
+        SECOND_55H => last_write(row, a, x),
         _ => BROKEN,
     }
 }
@@ -165,14 +173,14 @@ fn stage_after(effect: Effect) -> u32
 {
     match effect {
         Effect::Goes(stage) => stage,
-        Effect::Starts(_) => 0,
-        Effect::Enters(_) => 0,
+        Effect::Starts(_) => NONE_BEGUN,
+        Effect::Enters(_) => NONE_BEGUN,
     }
 }
 
 // A write; while busy it does nothing.
 pub(crate) fn written(row: Row, d: Device, wp: bool, a: u32, x: u16) -> Device
-    requires { ⌜ Sized row ⌝ }
+    requires { ⌜ RowFitsWords row ⌝ }
     ensures { λ r. ⌜ r ≡ writtenOf row d wp a x ⌝ }
 {
     let core = d.core;

@@ -19,7 +19,7 @@ use Rattle.chip.specs.declared.device.Device.{Device}
 use Rattle.chip.specs.declared.device.Operation.{Operation}
 use Rattle.chip.specs.declared.cycle.Action.the-variants.{Read}
 use Rattle.chip.specs.declared.cycle.Cycle.{Cycle}
-use Rattle.chip.specs.Cycle.{Chip, chip, acceptedOf, cycleOf}
+use Rattle.chip.specs.Cycle.{cycle, Chip, chip, acceptedOf, cycleOf}
 use Rattle.chip.specs.Trace.{play, startedIn}
 use Rattle.driver.specs.declared.machine.Driver.{Driver}
 use Rattle.driver.specs.declared.machine.Step.{Step}
@@ -29,7 +29,7 @@ use Rattle.driver.specs.declared.machine.Next.the-variants.{Nothing}
 use Rattle.driver.specs.Refusals.{commandRefusal, startRefusal}
 use Rattle.driver.specs.Writes.{write, unlock, lastWrite, writeCount, writesOf, sixPlaces, commandWrites}
 use Rattle.driver.specs.Machine.{addressOf, confirmAfter, bitSeven, bitWanted, startOf, mostPolls, countFits, inRange, step, matches, pollingOf, confirmingOf, phaseOf, stepOf}
-use Rattle.driver.specs.Talk.{cycle, writeCycles, shownAfter, Told, talk}
+use Rattle.driver.specs.Talk.{writeCycles, shownAfter, Told, talk}
 use Rattle.driver.proofs.Asked.{asking, begun}
 use Rattle.driver.proofs.Theorems as Theorems
 use Rattle.invoice.proofs.Starts.{started-append, reads-start, one-read-starts}
@@ -175,11 +175,11 @@ demand-2 =
       writes-start = λ c accepted cells d wp i. let g = toWrite c in
           rw (c .promise, places-are (g .part) (g .command) (g .address) (g .word) accepted)
           (Theorems.writes-start (g .part) (g .command) (g .address) (g .word) wp cells d accepted (i .whole) (i .rests) (i .heeded) .1);
-      driver-starts = λ c accepted cells d wp i read n enough. rw (c .promise) (starts (toStart c) accepted cells d wp i read n enough);
-      driver-succeeds = λ c accepted cells d wp i same read n enough. let g = toStart c in
+      driver-starts = λ c accepted cells d wp i read n enough. rw (c .promise) (starts (toStart (c .given)) accepted cells d wp i read n enough);
+      driver-succeeds = λ c accepted cells d wp i same read n enough. let g = toStart (c .given) in
           rw (c .promise)
           (Theorems.succeeds (g .part) (g .command) (g .address) (g .word) (g .p) wp cells d accepted (i .whole) (i .rests) (i .heeded) same n read enough);
-      driver-ends = λ c accepted wp f read n enough. let g = toStart c in
+      driver-ends = λ c accepted wp f read n enough. let g = toStart (c .given) in
           rw (c .promise) (Theorems.always-ends (g .part) (g .command) (g .address) (g .word) (g .p) accepted wp f read n enough);
       value-ignored = λ c e same none. let d = toStep c .driver in let u = toStep c .read in let v = toStep e .read in
           same-step c e same (in-range d u v (λ _. ignores d u v (d .phase) none));

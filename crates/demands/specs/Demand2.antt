@@ -78,14 +78,14 @@ pub record Demand2 : Type 0 where
       ≡ operationOf (rowOf (g .part)) (g .command) (g .address) (g .word) ∷ []
   -- The cycles that a started driver names, each sent to the chip and its reply given to the next step (`talk`), start the
   -- operation asked for and no other, whatever the cells hold.
-  pub driver-starts : (c : StartCall) → let g = toStart c in refusedStart g ≡ 0
+  pub driver-starts : (c : StartCall) → let g = toStart (c .given) in refusedStart g ≡ 0
       → (cells : List ℕ) (d : Device) (wp : Bool) → IdleUnprotected (g .part) (g .command) (g .address) cells d wp
       → (read n : ℕ) → writeCount (g .command) + polls g * 2 + 1 ≤ n
       → startedIn (g .part) (chip cells d) (talk (g .part) wp n (stepOf (c .back .driver) read) (chip cells d) .cycles)
       ≡ operationAsked g ∷ []
   -- There, where the cell shows the wanted value once the operation has completed (after every erase, and after a program
   -- that has no bit to raise), it succeeds.
-  pub driver-succeeds : (c : StartCall) → let g = toStart c in refusedStart g ≡ 0
+  pub driver-succeeds : (c : StartCall) → let g = toStart (c .given) in refusedStart g ≡ 0
       → (cells : List ℕ) (d : Device) (wp : Bool) → IdleUnprotected (g .part) (g .command) (g .address) cells d wp
       → shownAfter (rowOf (g .part)) (g .command) (g .address) (g .word) cells
       ≡ valueWanted (rowOf (g .part)) (g .command) (g .word)
@@ -93,7 +93,7 @@ pub record Demand2 : Type 0 where
       → talk (g .part) wp n (stepOf (c .back .driver) read) (chip cells d) ≡ success g wp cells
   -- Whatever is replied (f), a dead chip's constant among it, a started driver has ended after 6 + 2N + 1 cycles, 4 + 2N +
   -- 1 for a program: `Ended` says how.
-  pub driver-ends : (c : StartCall) → let g = toStart c in refusedStart g ≡ 0
+  pub driver-ends : (c : StartCall) → let g = toStart (c .given) in refusedStart g ≡ 0
       → (wp : Bool) (f : ℕ → ℕ) (read n : ℕ) → writeCount (g .command) + polls g * 2 + 1 ≤ n
       → Ended (g .part) (g .command) (g .address) (g .word) (g .p) wp (heard wp f n (stepOf (c .back .driver) read))
   -- Given any two values where the last cycle named was no read, or after the end, two steps of one state are the same.

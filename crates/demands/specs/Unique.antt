@@ -37,10 +37,10 @@ use Rattle.chip.proofs.fresh.Kinds as fresh-kinds
 use Rattle.chip.proofs.fresh.Reads as fresh-reads
 use Rattle.chip.proofs.bus_cycle.Kinds as bus-cycle-kinds
 use Rattle.chip.proofs.bus_cycle.Reads as bus-cycle-reads
-use Rattle.driver.proofs.start_writing.Kinds as start-writing-kinds
-use Rattle.driver.proofs.start_writing.Reads as start-writing-reads
 use Rattle.driver.proofs.start.Kinds as start-kinds
 use Rattle.driver.proofs.start.Reads as start-reads
+use Rattle.driver.proofs.start_writing.Kinds as start-writing-kinds
+use Rattle.driver.proofs.start_writing.Reads as start-writing-reads
 use Rattle.driver.proofs.machine.Driver.step.Kinds as step-kinds
 use Rattle.driver.proofs.machine.Driver.step.Reads as step-reads
 use Rattle.driver.proofs.command_writes.Kinds as command-writes-kinds

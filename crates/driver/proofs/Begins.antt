@@ -18,7 +18,7 @@ use Rattle.driver.specs.declared.machine.Next.the-variants.{Nothing}
 use Rattle.driver.specs.Refusals.{startRefusal}
 use Rattle.driver.specs.Writes.{lastWrite, writesOf, writeCount}
 use Rattle.driver.specs.Machine.{addressOf, dataOf, bitSeven, bitWanted, valueWanted, begun, startOf, inRange, step, writingOf, startWriting}
-use Rattle.driver.specs.Usual.{Usual}
+use Rattle.driver.specs.Fits.{CodesAndTimesFit}
 use Rattle.driver.proofs.Asked.{beginning}
 use Rattle.driver.proofs.Asked as asks
 use Rattle.driver.proofs.Ready.{write-count-some, writing-count, usual-row}
@@ -101,7 +101,7 @@ module _ (part command a x p : ℕ) (s : Started) (f : Found) (e : s ≡ startOf
     row : f .row ≡ rowOf part
     row = ap (λ (f : Found). f .row) found
 
-    pub may-write : Usual (f .row) × (s .driver .count < writeCount (s .driver .command))
+    pub may-write : CodesAndTimesFit (f .row) × (s .driver .count < writeCount (s .driver .command))
     may-write =
         let b = begun part command a x p in
         let i = start-range part command a x p accepts in

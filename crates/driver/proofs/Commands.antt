@@ -25,12 +25,12 @@ use Rattle.chip.specs.declared.cycle.Action.the-variants.{Write as Writes}
 use Rattle.chip.specs.declared.cycle.Cycle.{Cycle}
 use Rattle.chip.specs.Device.{busyWith, busy, device}
 use Rattle.chip.specs.Sequence.{effectOf, ignored, newOperation}
-use Rattle.chip.specs.Cycle.{Chip, chip}
+use Rattle.chip.specs.Cycle.{cycle, Chip, chip}
 use Rattle.chip.specs.Trace.{after, play, startedBy, startedIn}
 use Rattle.chip.proofs.Cases.{write-leaves, write-starts}
 use Rattle.driver.specs.declared.writes.Write.{Write}
 use Rattle.driver.specs.Writes.{lastWrite, writesOf}
-use Rattle.driver.specs.Talk.{cycle, writeCycle, writeCycles, operationOf}
+use Rattle.driver.specs.Talk.{writeCycle, writeCycles, operationOf}
 use Rattle.driver.proofs.Asked.{Target}
 
 -- the commands of a part are four

@@ -14,7 +14,7 @@ use Rattle.parts.proofs.Every.{apart, split}
 use Rattle.chip.specs.declared.cycle.Action.{Action}
 use Rattle.chip.specs.declared.cycle.Action.the-variants.{Read, Write}
 use Rattle.chip.specs.declared.cycle.Cycle.{Cycle}
-use Rattle.chip.specs.Cycle.{Chip}
+use Rattle.chip.specs.Cycle.{cycle, Chip}
 use Rattle.chip.specs.Trace.{after}
 use Rattle.driver.specs.declared.writes.Write.{Write as Written}
 use Rattle.driver.specs.declared.machine.Phase.{Phase}
@@ -25,7 +25,7 @@ use Rattle.driver.specs.declared.machine.Next.the-variants.{Nothing, Sen
 use Rattle.driver.specs.declared.machine.Step.{Step}
 use Rattle.driver.specs.Writes.{noWrite, writesOf, writeCount}
 use Rattle.driver.specs.Machine.{addressOf, confirmAfter, writing, confirmed, inRange, stepOf}
-use Rattle.driver.specs.Talk.{cycle, writeCycle, writeCycles, operationCycles, shows, talk}
+use Rattle.driver.specs.Talk.{writeCycle, writeCycles, operationCycles, shows, talk}
 use Rattle.driver.proofs.Steps.{Way, refused, writes, wrote, waits, matched, ends, way, keeps}
 use Rattle.driver.proofs.Talks.{write-length, talk-stops, talk-goes}
 

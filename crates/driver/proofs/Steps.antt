@@ -261,12 +261,12 @@ finishes d read e = go (stepOf d read) (way d read)
     go s (ends f i z c m) h = z
 
 -- ---- what is known of a step of a state in range
-pub record Kept (s : Step) : Type 0 where
+pub record StepInRange (s : Step) : Type 0 where
   pub range : inRange (s .driver) ≡ true
   pub carried : pollsBy (s .driver) ≡ s .polls
   pub number : s .answer ≡ ending (s .driver .phase)
   pub finished : s .next ≡ Nothing → final (s .driver .phase) ≡ true
   pub again : s .next ≡ Nothing → (read : ℕ) → stepOf (s .driver) read ≡ s
 
-pub kept : (d : Driver) (read : ℕ) → inRange d ≡ true → Kept (stepOf d read)
+pub kept : (d : Driver) (read : ℕ) → inRange d ≡ true → StepInRange (stepOf d read)
 kept d read e = record { range = keeps d read e; carried = carries d read e; number = answers d read e; finished = finishes d read e; again = λ h r. repeats d read r h }

@@ -27,7 +27,7 @@ use Rattle.chip.specs.declared.cycle.Cycle.{Cycle}
 use Rattle.chip.specs.Device.{operation, busyWith, atRest, busy, device, coreIdle}
 use Rattle.chip.specs.Operation.{cellsOf, completeOn}
 use Rattle.chip.specs.Sequence.{ignored}
-use Rattle.chip.specs.Cycle.{Chip, chip, Outcome, outcome, cycleOf, status, bit6}
+use Rattle.chip.specs.Cycle.{cycle, Chip, chip, Outcome, outcome, cycleOf, status, bit6}
 use Rattle.chip.specs.Trace.{leaves, after, play, startedBy, startedIn}
 use Rattle.chip.proofs.Accepted.{Valid, within-cells}
 use Rattle.chip.proofs.Settled.{complete-length}
@@ -43,7 +43,7 @@ use Rattle.driver.specs.declared.machine.Step.{Step}
 use Rattle.driver.specs.Refusals.{startRefusal}
 use Rattle.driver.specs.Writes.{write, noWrite, lastWrite, writesOf, writeCount, nthWrite}
 use Rattle.driver.specs.Machine.{mostPolls, countFits, inRange, moved, step, ended, addressOf, bitSeven, bitWanted, valueWanted, afterWrite, writingOf, polls, confirmAfter, matches, pollingOf, confirmingOf, phaseOf, stepOf}
-use Rattle.driver.specs.Talk.{cycle, writeCycle, writeCycles, operationOf, Told, told, led, shows, talk}
+use Rattle.driver.specs.Talk.{writeCycle, writeCycles, operationOf, Told, told, led, shows, talk}
 use Rattle.driver.specs.Reads.{Due, Scans, Polls, Confirms, begins, passes, Place, ARead, NoRead, placesIn}
 use Rattle.driver.proofs.Asked.{Begun, begun}
 use Rattle.driver.proofs.Ready.{write-count-some}

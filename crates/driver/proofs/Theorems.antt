@@ -18,7 +18,7 @@ use Rattle.chip.specs.declared.cycle.Action.the-variants.{Read}
 use Rattle.chip.specs.declared.cycle.Cycle.{Cycle}
 use Rattle.chip.specs.Device.{busyWith, device, freshDevice, coreIdle, idle}
 use Rattle.chip.specs.Sequence.{ignored}
-use Rattle.chip.specs.Cycle.{Chip, chip}
+use Rattle.chip.specs.Cycle.{cycle, Chip, chip}
 use Rattle.chip.specs.Trace.{play, startedIn}
 use Rattle.driver.specs.declared.machine.Phase.{Phase}
 use Rattle.driver.specs.declared.machine.Phase.the-variants.{Polling, Done, GaveUp, Differs}
@@ -28,10 +28,10 @@ use Rattle.driver.specs.declared.machine.Step.{Step}
 use Rattle.driver.specs.Refusals.{commandRefusal, startRefusal}
 use Rattle.driver.specs.Writes.{writesOf, writeCount}
 use Rattle.driver.specs.Machine.{addressOf, bitSeven, bitWanted, valueWanted, begun, startOf, mostPolls, confirmAfter, moved, ending, final, ended, stepOf}
-use Rattle.driver.specs.Talk.{cycle, writeCycles, operationCycles, operationOf, completed, shownAfter, Told, told, talk, Heard, heard}
+use Rattle.driver.specs.Talk.{writeCycles, operationCycles, operationOf, completed, shownAfter, Told, told, talk, Heard, heard}
 use Rattle.driver.specs.Reads.{Scans, Polls, Confirms, ARead, NoRead, placesIn}
 use Rattle.driver.proofs.Asked as Asked
-use Rattle.driver.proofs.Steps.{most, Kept, kept, few-polls, falls, asks-on, final-polls, final-writing}
+use Rattle.driver.proofs.Steps.{most, StepInRange, kept, few-polls, falls, asks-on, final-polls, final-writing}
 use Rattle.driver.proofs.Named.{namedIn, namedBy, names, asCycle, cycles-are, cycles-few}
 use Rattle.driver.proofs.Within.{over, stands}
 use Rattle.chip.proofs.Idle.{idle-is, idle-rests}
@@ -168,7 +168,7 @@ pub record Ended (part command address word p : ℕ) (wp : Bool) (t : Heard) : T
 -- Whatever f replies, a dead chip's constant among them, and whatever was read before, a started driver has ended after its writes + 2N + 1 cycles.
 module _ (part command address word p : ℕ) (accepted : startRefusal part command address word p ≡ 0) (wp : Bool) where
   -- what a started driver has named by an end
-  named-at-end : (s : Step) → s .driver ≡ moved (begun part command address word p) (s .driver .phase) (s .driver .count) → Kept s → final (s .driver .phase) ≡ true
+  named-at-end : (s : Step) → s .driver ≡ moved (begun part command address word p) (s .driver .phase) (s .driver .count) → StepInRange s → final (s .driver .phase) ≡ true
       → namedBy Cycle (asCycle wp) (s .driver) ≡ operationCycles (rowOf part) wp command address word p (s .polls) (s .driver .phase)
   named-at-end s e k z =
       let b = begun part command address word p in

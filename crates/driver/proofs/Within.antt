@@ -5,13 +5,14 @@ use mathlib.Core.Bool.{Bool}
 use mathlib.Core.List.{List, [], _∷_, _++_}
 use native.Mathlib.Nat.{le-trans, le-of-suc-le-suc, not-suc-le-zero}
 use Rattle.chip.specs.declared.cycle.Cycle.{Cycle}
+use Rattle.chip.specs.Cycle.{cycle}
 use Rattle.driver.specs.declared.machine.Driver.{Driver}
 use Rattle.driver.specs.declared.machine.Next.{Next}
 use Rattle.driver.specs.declared.machine.Next.the-variants.{Nothing, Send}
 use Rattle.driver.specs.declared.machine.Step.{Step}
 use Rattle.driver.specs.Machine.{moved, stepOf}
-use Rattle.driver.specs.Talk.{cycle, Heard, heardOf, heard}
-use Rattle.driver.proofs.Steps.{leftFrom, falls, asks-on, Kept, kept}
+use Rattle.driver.specs.Talk.{Heard, heardOf, heard}
+use Rattle.driver.proofs.Steps.{leftFrom, falls, asks-on, StepInRange, kept}
 use Rattle.driver.proofs.Named.{Adds, stays, moves, asCycle}
 
 module _ (wp : Bool) where
@@ -39,11 +40,11 @@ module _ (wp : Bool) where
 
   -- the step that stands: of a state in range, that asks what was asked; and its state says what was named
   pub record Stands (before : List Cycle) (s : Step) (t : Heard) : Type 0 where
-    pub kept : Kept (t .last)
+    pub kept : StepInRange (t .last)
     pub asked : t .last .driver ≡ moved (s .driver) (t .last .driver .phase) (t .last .driver .count)
     pub adds : Adds Cycle (asCycle wp) before s (t .last) (t .cycles)
 
-  pub stands : (n : ℕ) (f : ℕ → ℕ) (before : List Cycle) (s : Step) → Kept s → Stands before s (heard wp f n s)
+  pub stands : (n : ℕ) (f : ℕ → ℕ) (before : List Cycle) (s : Step) → StepInRange s → Stands before s (heard wp f n s)
   unfolding heard
   stands zero f before s k = record { kept = k; asked = refl; adds = stays Cycle (asCycle wp) before s }
   stands (suc n) f before s k = go (s .next) refl (λ b. stands n (λ i. f (suc i)) b (stepOf (s .driver) (f 0)) (kept (s .driver) (f 0) (k .range)))

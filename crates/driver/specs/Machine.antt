@@ -2,6 +2,7 @@
 use Prim.Native.Nat.{ℕ, _+_, _*_, _/_, _%_}
 use mathlib.Core.Bool.{Bool, true, false}
 use lib.Dec.{eqb, ltb, leb}
+use Rattle.parts.specs.Names.{PROGRAM, CHIP, BAD-STATE, GAVE-UP, DIFFERS}
 use Rattle.parts.specs.Pick.{pick}
 use Rattle.parts.specs.Width.{valueOf, blankOf}
 use Rattle.parts.specs.Table.{rowOf}
@@ -25,22 +26,22 @@ driver part command a x p f n = record { part = part; command = command; address
 -- ---- what is asked
 -- the operation's address: 0 for chip
 abbrev pub addressOf : ℕ → ℕ → ℕ
-addressOf command a = pick (eqb command 3) 0 a
+addressOf command a = pick (eqb command CHIP) 0 a
 
 -- the data that counts: an erase ignores it
 abbrev pub dataOf : ℕ → ℕ → ℕ
-dataOf command x = pick (eqb command 0) x 0
+dataOf command x = pick (eqb command PROGRAM) x 0
 
 abbrev pub bitSeven : ℕ → ℕ
 bitSeven x = x / 128 % 2
 
 -- bit 7 that ends the polling: the data's, or 1 for an erase
 abbrev pub bitWanted : ℕ → ℕ → ℕ
-bitWanted command x = pick (eqb command 0) (bitSeven x) 1
+bitWanted command x = pick (eqb command PROGRAM) (bitSeven x) 1
 
 -- what the confirming read must equal: the data, or blank
 abbrev pub valueWanted : Row → ℕ → ℕ → ℕ
-valueWanted r command x = pick (eqb command 0) x (blankOf (r .width))
+valueWanted r command x = pick (eqb command PROGRAM) x (blankOf (r .width))
 
 -- ---- the start
 -- a driver that has named nothing yet
@@ -96,8 +97,8 @@ ending Writing = 0
 ending Polling = 0
 ending Confirming = 0
 ending Done = 0
-ending GaveUp = 11
-ending Differs = 12
+ending GaveUp = GAVE-UP
+ending Differs = DIFFERS
 
 -- the phases that end
 abbrev pub final : Phase → Bool
@@ -176,7 +177,7 @@ phaseOf r Differs d read = ended d Differs
 
 -- given the value last read, the next cycle or the end; 5, with the state handed back, for one out of range
 unfoldable pub stepOf : Driver → ℕ → Step
-stepOf d read = pick (inRange d) (phaseOf (rowOf (d .part)) (d .phase) d read) (step 5 d Nothing 0)
+stepOf d read = pick (inRange d) (phaseOf (rowOf (d .part)) (d .phase) d read) (step BAD-STATE d Nothing 0)
 
 -- a start and its first step at once; a refused start names nothing
 unfoldable pub startWriting : ℕ → ℕ → ℕ → ℕ → ℕ → Step

@@ -12,7 +12,7 @@ use Rattle.chip.specs.declared.cycle.Action.the-variants.{Read, Write}
 use Rattle.chip.specs.declared.cycle.Cycle.{Cycle}
 use Rattle.chip.specs.Operation.{completeOn}
 use Rattle.chip.specs.Sequence.{newOperation}
-use Rattle.chip.specs.Cycle.{Chip, cycleOf}
+use Rattle.chip.specs.Cycle.{cycle, Chip, cycleOf}
 use Rattle.chip.specs.Trace.{after}
 use Rattle.driver.specs.declared.writes.Write.{Write as Written}
 use Rattle.driver.specs.declared.machine.Phase.{Phase}
@@ -20,9 +20,6 @@ use Rattle.driver.specs.declared.machine.Next.the-variants.{Nothing, Sen
 use Rattle.driver.specs.declared.machine.Step.{Step}
 use Rattle.driver.specs.Writes.{lastWrite, writesOf}
 use Rattle.driver.specs.Machine.{addressOf, confirmAfter, confirmed, stepOf}
-
-abbrev pub cycle : ℕ → Bool → Action → Cycle
-cycle e wp a = record { elapsed = e; wp = wp; action = a }
 
 -- writes, as cycles at 0 µs
 abbrev pub writeCycle : Bool → Written → Cycle

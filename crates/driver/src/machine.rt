@@ -5,12 +5,17 @@ use crate::writes::write_count;
 use chip::Action;
 use parts::Found;
 use parts::Row;
+use parts::names::BAD_STATE;
+use parts::names::CHIP;
+use parts::names::DIFFERS;
+use parts::names::GAVE_UP;
+use parts::names::PROGRAM;
 ghost use mathlib.Core.Path.{_≡_};
 ghost use Prim.Native.Nat.{_<_, _≤_};
 ghost use lib.Dec.{eqb, leb, ltb};
 ghost use Rattle.parts.specs.Table.{foundOf};
 ghost use Rattle.driver.specs.Machine.{addressOf, afterWrite, bitSeven, bitWanted, confirmingOf, confirms, countFits, dataOf, driver, inRange, matches, mostPolls, moved, pollingOf, polls, someUpTo, startOf, startWriting, step, stepOf, valueWanted, writingOf};
-ghost use Rattle.driver.specs.Usual.{Usual};
+ghost use Rattle.driver.specs.Fits.{CodesAndTimesFit};
 ghost use Rattle.driver.specs.Writes.{writeCount};
 
 // The µs from the last poll to the confirming read.
@@ -63,7 +68,7 @@ pub struct Step {
 fn address_of(command: u32, address: u32) -> u32
     ensures { λ r. ⌜ r ≡ addressOf command address ⌝ }
 {
-    if command == 3 {
+    if command == CHIP {
         return 0;
     }
     address
@@ -73,7 +78,7 @@ fn address_of(command: u32, address: u32) -> u32
 fn data_of(command: u32, data: u16) -> u16
     ensures { λ r. ⌜ r ≡ dataOf command «data» ⌝ }
 {
-    if command == 0 {
+    if command == PROGRAM {
         return data;
     }
     0
@@ -90,7 +95,7 @@ fn bit_seven(x: u16) -> u16
 fn bit_wanted(command: u32, data: u16) -> u16
     ensures { λ r. ⌜ r ≡ bitWanted command «data» ⌝ }
 {
-    if command == 0 {
+    if command == PROGRAM {
         return bit_seven(data);
     }
     1
@@ -101,7 +106,7 @@ fn value_wanted(row: Row, command: u32, data: u16) -> u16
     requires { ⌜ row .width ≤ 16 ⌝ }
     ensures { λ r. ⌜ r ≡ valueWanted row command «data» ⌝ }
 {
-    if command == 0 {
+    if command == PROGRAM {
         return data;
     }
     parts::blank(row.width)
@@ -142,7 +147,7 @@ fn start_on(found: Found, part: u32, command: u32, address: u32, data: u16, p: u
     }
 }
 
-// Starts a command, 0 program, 1 sector, 2 block, 3 chip, polled every p µs: refusals 1, 10, 14, 3, 4.
+// Starts a command, polled every p µs: refusals 1, 10, 14, 3, 4.
 pub fn start(part: u32, command: u32, address: u32, data: u16, p: u32) -> Started
     ensures { λ r. ⌜ r ≡ startOf part command address «data» p ⌝ }
 {
@@ -283,7 +288,7 @@ impl Driver {
 
     // Names the next write.
     fn write_on(self, row: Row) -> Step
-        requires { ⌜ Usual row ⌝ }
+        requires { ⌜ CodesAndTimesFit row ⌝ }
         requires { ⌜ self .count < writeCount (self .command) ⌝ }
         ensures { λ r. ⌜ r ≡ writingOf row self ⌝ }
     {
@@ -345,7 +350,7 @@ impl Driver {
 
     // Polls on, confirms or gives up.
     fn poll_on(self, row: Row, read: u16) -> Step
-        requires { ⌜ Usual row ⌝ }
+        requires { ⌜ CodesAndTimesFit row ⌝ }
         requires { ⌜ 0 < self .p ⌝ }
         ensures { λ r. ⌜ r ≡ pollingOf row self read ⌝ }
     {
@@ -355,7 +360,7 @@ impl Driver {
         if self.polls_left(row, self.count) {
             return self.poll();
         }
-        self.end(Phase::GaveUp, 11)
+        self.end(Phase::GaveUp, GAVE_UP)
     }
 
     // Compares the confirming read.
@@ -366,7 +371,7 @@ impl Driver {
         if parts::value(row.width, read) == value_wanted(row, self.command, self.data) {
             return self.end(Phase::Done, 0);
         }
-        self.end(Phase::Differs, 12)
+        self.end(Phase::Differs, DIFFERS)
     }
 
     // Given the value last read, names the next cycle or the end: 5 for a state out of range.
@@ -376,7 +381,7 @@ impl Driver {
         let found = parts::part_row(self.part);
         if !self.in_range(found) {
             return Step {
-                answer: 5,
+                answer: BAD_STATE,
                 driver: self,
                 next: Next::Nothing,
                 polls: 0,
@@ -389,8 +394,8 @@ impl Driver {
             Phase::Polling => self.poll_on(row, read),
             Phase::Confirming => self.compare(row, read),
             Phase::Done => self.end(Phase::Done, 0),
-            Phase::GaveUp => self.end(Phase::GaveUp, 11),
-            Phase::Differs => self.end(Phase::Differs, 12),
+            Phase::GaveUp => self.end(Phase::GaveUp, GAVE_UP),
+            Phase::Differs => self.end(Phase::Differs, DIFFERS),
         }
     }
 }

@@ -19,7 +19,7 @@ use Rattle.chip.specs.Sequence.{ignored}
 use Rattle.chip.specs.declared.cycle.Action.the-variants.{Read}
 use Rattle.chip.specs.declared.device.Operation.{Operation}
 use Rattle.chip.specs.Device.{freshDevice}
-use Rattle.chip.specs.Cycle.{Chip, chip}
+use Rattle.chip.specs.Cycle.{cycle, Chip, chip}
 use Rattle.chip.specs.Trace.{after, play}
 use Rattle.chip.proofs.Idle.{fresh-idle}
 use Rattle.driver.specs.declared.machine.Next.{Next}
@@ -28,7 +28,7 @@ use Rattle.driver.specs.declared.machine.Step.{Step}
 use Rattle.driver.specs.Refusals.{startRefusal}
 use Rattle.driver.specs.Writes.{writesOf, writeCount}
 use Rattle.driver.specs.Machine.{addressOf, confirmAfter, valueWanted, startOf, stepOf}
-use Rattle.driver.specs.Talk.{talk, writeCycles, operationOf, completed, shownAfter, shows, cycle}
+use Rattle.driver.specs.Talk.{talk, writeCycles, operationOf, completed, shownAfter, shows}
 use Rattle.driver.proofs.Theorems.{succeeds, program-shows, erase-shows}
 use Rattle.job.specs.declared.loader.Job.{Job}
 use Rattle.job.specs.declared.search.Decision.{Decision}
@@ -38,7 +38,7 @@ use Rattle.job.specs.Run.{Sent, World, world, noneSent, playOf}
 use Rattle.job.specs.Sent.{operated, scanRead, scans, fills, looks, carries, decidedOn, sectorSent, sectorsSent, sentOf}
 use Rattle.driver.proofs.Talks.{talk-stops, talk-goes}
 use Rattle.job.proofs.Rest.{chipOf}
-use Rattle.job.proofs.Right.{Right, program-starts, erase-starts, fit-at}
+use Rattle.job.proofs.AcceptedJob.{AcceptedJob, program-starts, erase-starts, fit-at}
 use Rattle.job.proofs.Clears.{cleared}
 use Rattle.job.proofs.Left.{program-leaves, erase-length, erase-drop, erase-at}
 use Rattle.job.proofs.Sectors.{Ready, Read-on, reads-on}
@@ -59,7 +59,7 @@ unfolding talk
 talk-plays part wp zero t h = refl
 talk-plays part wp (suc m) t h = plays-on part wp m (talk-plays part wp m) t h (t .next) refl
 
-module _ (j : Job) (image : List ℕ) (R : Right j image) where
+module _ (j : Job) (image : List ℕ) (R : AcceptedJob j image) where
   abbrev r : Row
   r = rowOf (j .part)
 

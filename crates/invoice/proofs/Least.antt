@@ -38,7 +38,7 @@ use Rattle.job.specs.Refusal.{fitAll}
 use Rattle.job.specs.Run.{world, noneSent, playOf}
 use Rattle.job.specs.Sent.{sentOf}
 use Rattle.job.specs.Formulas.{tallyOf}
-use Rattle.job.proofs.Right.{Right, fit-at}
+use Rattle.job.proofs.AcceptedJob.{AcceptedJob, fit-at}
 use Rattle.least.specs.Operations.{Op, Program, Erase, programmed, blanks, erased, operate, operateAll, Holds, costAll}
 use Rattle.least.specs.LeastTime.{differs, rising}
 use Rattle.least.specs.Job.{programs, sectorOps, sectorsOps, jobOps, afterJob}
@@ -208,7 +208,7 @@ module _ (j : Job) where
         (ap (λ (a : ℕ). map (opOf Z) (sectoringAll j a n (drop Z l) (drop Z v))) e ∙ sectors-are n (suc s) (drop Z l) (drop Z v) (fit-drop W Z v f))
 
 -- ---- the theorem
-module _ (j : Job) (image : List ℕ) (R : Right j image) (cells : List ℕ) (full : length cells ≡ rowOf (j .part) .cells) where
+module _ (j : Job) (image : List ℕ) (R : AcceptedJob j image) (cells : List ℕ) (full : length cells ≡ rowOf (j .part) .cells) where
   abbrev r : Row
   r = rowOf (j .part)
 

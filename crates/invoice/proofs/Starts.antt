@@ -17,13 +17,13 @@ use Rattle.chip.specs.declared.cycle.Action.the-variants.{Read}
 use Rattle.chip.specs.declared.cycle.Cycle.{Cycle}
 use Rattle.chip.specs.Device.{freshDevice, idle}
 use Rattle.chip.specs.Sequence.{ignored}
-use Rattle.chip.specs.Cycle.{Chip, chip, cycleRefusal}
+use Rattle.chip.specs.Cycle.{cycle, Chip, chip, cycleRefusal}
 use Rattle.chip.specs.Trace.{after, play, startedBy, startedIn, uncutAction, uncut}
 use Rattle.chip.proofs.Bits.{pick-same}
 use Rattle.driver.specs.declared.writes.Write.{Write}
 use Rattle.driver.specs.Writes.{writesOf, writeCount}
 use Rattle.driver.specs.Machine.{addressOf, confirmAfter}
-use Rattle.driver.specs.Talk.{cycle, writeCycles, operationOf, completed}
+use Rattle.driver.specs.Talk.{writeCycles, operationOf, completed}
 use Rattle.driver.specs.Reads.{Scans, Polls, Confirms, Place, ARead, NoRead, placesIn}
 use Rattle.driver.specs.Refusals.{startRefusal}
 use Rattle.driver.proofs.Asked.{asking, begun}

@@ -4,6 +4,7 @@ use mathlib.Core.Path.{_≡_}
 use mathlib.Core.Bool.{Bool, true}
 use mathlib.Core.List.{List}
 use lib.ListN.{length, getD, take, drop}
+use Rattle.parts.specs.Names.{PROGRAM, SECTOR, BLOCK, CHIP}
 use Rattle.parts.specs.Width.{valueOf, sectorSize}
 use Rattle.parts.specs.Table.{rowOf}
 use Rattle.parts.specs.Time.{pollsOf}
@@ -39,23 +40,23 @@ pub record Invoice (part : ℕ) (cells : List ℕ) (first : ℕ) (image : List �
   pub above : (i : ℕ) → first + length image ≤ i → getD (l .cells) i 0 ≡ getD cells i 0
   pub rests : playedAll part cells first image wp p .held .device ≡ freshDevice
   -- the erases and programs are the operations that the cycles sent start on the chip; they start no other
-  pub erases : l .bill .erases ≡ many 1 (started part cells first image wp p)
-  pub programs : l .bill .programs ≡ many 0 (started part cells first image wp p)
-  pub blocks : many 2 (started part cells first image wp p) ≡ 0
-  pub chips : many 3 (started part cells first image wp p) ≡ 0
+  pub erases : l .bill .erases ≡ many SECTOR (started part cells first image wp p)
+  pub programs : l .bill .programs ≡ many PROGRAM (started part cells first image wp p)
+  pub blocks : many BLOCK (started part cells first image wp p) ≡ 0
+  pub chips : many CHIP (started part cells first image wp p) ≡ 0
   -- the polls, the scans and the confirming reads are those of the cycles sent, told by their places; and the time is theirs
   pub polled : l .bill .polls ≡ howMany Polls (placesSent part cells first image wp p)
   pub scanned : l .bill .scans ≡ howMany Scans (placesSent part cells first image wp p)
   pub confirmed : l .bill .confirms ≡ howMany Confirms (placesSent part cells first image wp p)
   pub timed : l .bill .spent ≡ timeIn (sentCycles part cells first image wp p)
   -- polls = sum of N over operations; spent = polls times p; confirms = erases + programs
-  pub polls : l .bill .polls ≡ l .bill .erases * pollsOf (rowOf part) 1 p + l .bill .programs * pollsOf (rowOf part) 0 p
+  pub polls : l .bill .polls ≡ l .bill .erases * pollsOf (rowOf part) SECTOR p + l .bill .programs * pollsOf (rowOf part) PROGRAM p
   pub spent : l .bill .spent ≡ l .bill .polls * p
   pub confirms : l .bill .confirms ≡ l .bill .erases + l .bill .programs
   -- scans = cells in range plus cells of unerased sectors: with the cells of erased sectors they are twice the range's
   pub scans : l .bill .scans + l .bill .erases * sectorSize (rowOf part .width) ≡ length image + length image
   -- saved = (every sector erased and every cell programmed, each at N times p) less spent
-  pub saved : l .bill .saved + l .bill .spent ≡ length image / sectorSize (rowOf part .width) * (pollsOf (rowOf part) 1 p * p) + length image * (pollsOf (rowOf part) 0 p * p)
+  pub saved : l .bill .saved + l .bill .spent ≡ length image / sectorSize (rowOf part .width) * (pollsOf (rowOf part) SECTOR p * p) + length image * (pollsOf (rowOf part) PROGRAM p * p)
   -- sum = the range's values added in 16 bits, wrapping; and the answer is 0
   pub sum : l .bill .sum ≡ sumOf (rowOf part .width) (take (length image) (drop first (l .cells)))
   pub answer : l .bill .answer ≡ 0
@@ -74,7 +75,7 @@ pub record Partly (part : ℕ) (cells : List ℕ) (first : ℕ) (image : List �
 pub record Rival (part : ℕ) (cells : List ℕ) (first : ℕ) (image : List ℕ) (d : Device) (cs : List Cycle) : Type 0 where
   pub begins : idle d ≡ true
   pub uncut : uncutAll cs ≡ true
-  pub blocks : many 2 (startedIn part (chip cells d) cs) ≡ 0
-  pub chips : many 3 (startedIn part (chip cells d) cs) ≡ 0
+  pub blocks : many BLOCK (startedIn part (chip cells d) cs) ≡ 0
+  pub chips : many CHIP (startedIn part (chip cells d) cs) ≡ 0
   pub ends : idle (play part (chip cells d) cs .device) ≡ true
   pub holds : (i : ℕ) → i < length image → valueOf (rowOf part .width) (getD (play part (chip cells d) cs .cells) (first + i) 0) ≡ getD image i 0

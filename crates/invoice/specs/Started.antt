@@ -18,7 +18,7 @@ abbrev pub timeIn : List Cycle → ℕ
 timeIn [] = 0
 timeIn (c ∷ cs) = c .elapsed + timeIn cs
 
--- how many are of kind k: 0 program, 1 sector erase, 2 block erase, 3 chip erase
+-- how many are of kind k, a command
 abbrev pub many : ℕ → List Operation → ℕ
 many k [] = 0
 many k (o ∷ os) = pick (eqb (o .kind) k) 1 0 + many k os

@@ -21,19 +21,19 @@ use Rattle.job.specs.declared.run.Held.{Held}
 use Rattle.job.specs.declared.run.Ended.{Ended}
 use Rattle.job.specs.declared.bill.Bill.{Bill}
 use Rattle.job.specs.declared.bill.Report.{Report}
-use Rattle.job.specs.Kept.{Kept}
+use Rattle.job.specs.Fits.{JobFits}
 use Rattle.job.specs.Total.{sumOf}
 use Rattle.job.specs.Refusal.{jobRefusal}
 use Rattle.job.specs.Run.{World, world, noneSent, playOf, runFrom, stopFrom, ended}
 use Rattle.job.specs.Sent.{sentOf}
 use Rattle.job.specs.Formulas.{N, operationTime}
-use Rattle.job.specs.Bill.{Timed, jobOf, firstFew, billOf, billed, reported, played, playedAll, reportOf, loadOf}
+use Rattle.job.specs.Bill.{FullTimeFits, jobOf, firstFew, billOf, billed, reported, played, playedAll, reportOf, loadOf}
 use Rattle.job.proofs.Accepts.{Passed, passed, sector-most}
 use Rattle.job.proofs.Runs.{runs, never-stops-short}
 use Rattle.job.proofs.Counts.{length-most}
 
 -- ---- a full job's time fits
-module _ (j : Job) (t : Timed j) where
+module _ (j : Job) (t : FullTimeFits j) where
   time-few : (command : ℕ) → command ≤ 1 → timeOf (j .row) command ≤ 140000
   time-few zero h = t .program
   time-few (suc zero) h = t .erase
@@ -75,10 +75,10 @@ module _ (part first : ℕ) (image cells : List ℕ) (wp : Bool) (p : ℕ) (z : 
   pub image-few : first + length image ≤ 4194304
   image-few = omega (arith, ok .right .range, cells-most part (ok .right .known))
 
-  pub kept : Kept j (length image)
+  pub kept : JobFits j (length image)
   kept = record { count = refl; range = image-few; some = sector-some (rowOf part .width); most = sector-most (rowOf part .width); narrow = width-most part (ok .right .known) }
 
-  pub timed : Timed j
+  pub timed : FullTimeFits j
   timed =
       record {
         some = sector-some (rowOf part .width);

@@ -18,8 +18,8 @@ use Rattle.parts.proofs.Every.{split, both, at}
 use Rattle.parts.proofs.Sound.{known, cells-most}
 use Rattle.parts.proofs.Rounding.{least}
 use Rattle.chip.specs.declared.cycle.Action.{Action}
+use Rattle.chip.specs.Cycle.{cycle}
 use Rattle.driver.specs.Writes.{writesOf}
-use Rattle.driver.specs.Talk.{cycle}
 use Rattle.job.specs.declared.loader.Job.{Job}
 use Rattle.job.specs.declared.loader.Purpose.{Purpose}
 use Rattle.job.specs.declared.loader.Purpose.the-variants.{Scan, Lead, Begin, Poll, Confirm}
@@ -28,8 +28,8 @@ use Rattle.job.specs.declared.search.Decision.{Decision}
 use Rattle.job.specs.declared.search.Decision.the-variants.{NoErase, SectorErase}
 use Rattle.job.specs.Run.{Sent, World, sent, tally, countedOf, begunOf, sendOf, playOf}
 use Rattle.job.specs.Sent.{operated, scanRead, scans, fills, looks, sectorSent, sectorsSent, sentOf, carries, decidedOn}
-use Rattle.job.specs.Formulas.{plus, noTally, tallyOf, N, operationTime, Fair}
-use Rattle.job.proofs.Right.{Right}
+use Rattle.job.specs.Formulas.{plus, noTally, tallyOf, N, operationTime, FollowsFormulas}
+use Rattle.job.proofs.AcceptedJob.{AcceptedJob}
 
 -- ---- sums of counts
 -- nothing and t
@@ -105,7 +105,7 @@ module _ (j : Job) where
   -- ---- the formulas
   -- they hold of a list
   abbrev pub Fairly : List Sent → ℕ → ℕ → ℕ → Type 0
-  Fairly L s e c = Fair j (tallyOf L) (length L) s e c
+  Fairly L s e c = FollowsFormulas j (tallyOf L) (length L) s e c
 
   -- of two lists together, if of each
   joined : (L M : List Sent) (s e c s′ e′ c′ : ℕ) {s″ e″ c″ : ℕ} → Fairly L s e c → Fairly M s′ e′ c′
@@ -220,7 +220,7 @@ module _ (j : Job) where
       (omega arith) (omega arith) (omega arith)
 
   -- ---- bounds
-  module _ (t : Tally) (n s e c : ℕ) (f : Fair j t n s e c) where
+  module _ (t : Tally) (n s e c : ℕ) (f : FollowsFormulas j t n s e c) where
     -- the polls of e erases and c programs
     polls-most : t .polls ≤ e * N j 1 + c * N j 0
     polls-most = omega (arith, f .polls, mul-le-mul-right (N j 1) (f .erases), mul-le-mul-right (N j 0) (f .programs))
@@ -254,7 +254,7 @@ unfolding sectorSize
 large w = split (λ (n : ℕ). 2048 ≤ n) (eqb w 8) 4096 2048 (λ _. omega arith) (λ _. omega arith)
 
 -- ---- the whole job
-module _ (j : Job) (image : List ℕ) (R : Right j image) (cells : List ℕ) (full : length cells ≡ rowOf (j .part) .cells) where
+module _ (j : Job) (image : List ℕ) (R : AcceptedJob j image) (cells : List ℕ) (full : length cells ≡ rowOf (j .part) .cells) where
   -- the formulas: the range's cells are read twice less those of erased sectors; not more erases than sectors, nor programs than cells
   pub job-fair : Fairly j (sentOf j image cells) (j .count + j .count) (j .count / j .size) (j .count)
   job-fair =

@@ -3,7 +3,7 @@ pub mod InJob
 pub mod Loop
 pub mod Rest
 pub mod Operates
-pub mod Right
+pub mod AcceptedJob
 pub mod Left
 pub mod Clears
 pub mod Sectors

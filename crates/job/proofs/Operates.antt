@@ -12,7 +12,7 @@ use Rattle.parts.specs.Time.{pollsOf}
 use Rattle.chip.specs.declared.cycle.Action.the-variants.{Write}
 use Rattle.chip.specs.Device.{freshDevice}
 use Rattle.chip.specs.Sequence.{ignored}
-use Rattle.chip.specs.Cycle.{Chip, chip}
+use Rattle.chip.specs.Cycle.{cycle, Chip, chip}
 use Rattle.chip.proofs.Idle.{fresh-idle}
 use Rattle.driver.specs.declared.writes.Write.{Write as Written}
 use Rattle.driver.specs.declared.machine.Phase.the-variants.{Polling, Done}
@@ -21,7 +21,7 @@ use Rattle.driver.specs.declared.machine.Step.{Step}
 use Rattle.driver.specs.Refusals.{startRefusal}
 use Rattle.driver.specs.Writes.{writesOf, writeCount}
 use Rattle.driver.specs.Machine.{addressOf, valueWanted, begun, inRange, writingOf, stepOf, moved, ended, startWriting}
-use Rattle.driver.specs.Talk.{cycle, operationCycles, Told, told, talk, completed, shownAfter}
+use Rattle.driver.specs.Talk.{operationCycles, Told, told, talk, completed, shownAfter}
 use Rattle.driver.proofs.Begins.{started, start-range, kept-address, kept-writes}
 use Rattle.driver.proofs.Steps.{goes, keeps, asks-on}
 use Rattle.driver.proofs.Named.{writesNamed, namedIn, names, spoken, talk-adds}

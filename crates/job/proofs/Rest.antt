@@ -6,7 +6,7 @@ use borrow.Author.Tests.{eq-eqb}
 use lib.ListN.{take}
 use Rattle.chip.specs.declared.cycle.Action.{Action}
 use Rattle.chip.specs.declared.cycle.Cycle.{Cycle}
-use Rattle.chip.specs.Cycle.{Chip, chip}
+use Rattle.chip.specs.Cycle.{cycle, Chip, chip}
 use Rattle.chip.specs.Trace.{after}
 use Rattle.driver.specs.declared.machine.Phase.{Phase}
 use Rattle.driver.specs.declared.machine.Driver.{Driver}
@@ -14,7 +14,7 @@ use Rattle.driver.specs.declared.machine.Next.{Next}
 use Rattle.driver.specs.declared.machine.Next.the-variants.{Nothing, Send}
 use Rattle.driver.specs.declared.machine.Step.{Step}
 use Rattle.driver.specs.Machine.{stepOf}
-use Rattle.driver.specs.Talk.{cycle, Told, talk}
+use Rattle.driver.specs.Talk.{Told, talk}
 use Rattle.driver.proofs.Steps.{asks-on}
 use Rattle.driver.proofs.Talks.{talk-stops, talk-goes}
 use Rattle.driver.proofs.Named.{spoken, spoken-stops, spoken-goes}

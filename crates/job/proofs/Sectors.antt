@@ -19,10 +19,10 @@ use Rattle.parts.specs.declared.table.Row.{Row}
 use Rattle.chip.specs.declared.cycle.Action.the-variants.{Read}
 use Rattle.chip.specs.declared.cycle.Cycle.{Cycle}
 use Rattle.chip.specs.Device.{freshCore, freshDevice}
-use Rattle.chip.specs.Cycle.{Outcome, outcome, cycleOf}
+use Rattle.chip.specs.Cycle.{cycle, Outcome, outcome, cycleOf}
 use Rattle.chip.proofs.Cases.{read-idle}
 use Rattle.chip.proofs.Idle.{fresh-core-idle, fresh-idle}
-use Rattle.driver.specs.Talk.{cycle, completed}
+use Rattle.driver.specs.Talk.{completed}
 use Rattle.driver.proofs.Theorems.{program-shows, erase-shows}
 use Rattle.job.specs.declared.loader.Job.{Job}
 use Rattle.job.specs.declared.loader.Stage.{Stage}
@@ -38,7 +38,7 @@ use Rattle.job.specs.Loader.{turned, loader, placeOf, readsCell, nextSec
 use Rattle.job.specs.Run.{Sent, World, sendOf}
 use Rattle.job.specs.Sent.{operated, scanRead, scans, fills, looks, carries, decidedOn, sectorSent, sectorsSent}
 use Rattle.job.proofs.InJob.{sector-in}
-use Rattle.job.proofs.Right.{Right, program-starts, erase-starts, fit-at}
+use Rattle.job.proofs.AcceptedJob.{AcceptedJob, program-starts, erase-starts, fit-at}
 use Rattle.job.proofs.Turns.{part-length}
 use Rattle.job.proofs.Clears.{cleared}
 use Rattle.job.proofs.Left.{program-leaves, erase-length, erase-drop, erase-at}
@@ -53,7 +53,7 @@ map-suc f l i h = ap (map f) (take-suc l i 0 h) ∙ maps (take i l)
     maps [] = refl
     maps (x ∷ k) = ap (λ (m : List ℕ). f x ∷ m) (maps k)
 
-module _ (j : Job) (image : List ℕ) (R : Right j image) where
+module _ (j : Job) (image : List ℕ) (R : AcceptedJob j image) where
   abbrev r : Row
   r = rowOf (j .part)
 

@@ -2,6 +2,7 @@
 use Prim.Native.Nat.{ℕ, _+_, _*_, _≤_}
 use mathlib.Core.Path.{_≡_}
 use mathlib.Core.List.{List, [], _∷_}
+use Rattle.parts.specs.Names.{PROGRAM, SECTOR}
 use Rattle.parts.specs.Time.{pollsOf}
 use Rattle.driver.specs.Machine.{confirmAfter}
 use Rattle.job.specs.declared.loader.Job.{Job}
@@ -23,7 +24,7 @@ unfoldable pub tallyOf : List Sent → Tally
 tallyOf [] = noTally
 tallyOf (s ∷ ss) = plus (countedOf noTally (s .purpose) (s .cycle .elapsed)) (tallyOf ss)
 
--- N of a job's command: 0 program, 1 sector erase
+-- N of a job's command
 abbrev pub N : Job → ℕ → ℕ
 N j command = pollsOf (j .row) command (j .p)
 
@@ -33,8 +34,8 @@ operationTime j command = N j command * j .p + confirmAfter
 
 -- the bill's formulas, of t, the counts of n cycles: at most e erases and c programs;
 -- s cells to be read, of which those of an erased sector are read once less
-pub record Fair (j : Job) (t : Tally) (n s e c : ℕ) : Type 0 where
-  pub polls : t .polls ≡ t .erases * N j 1 + t .programs * N j 0
+pub record FollowsFormulas (j : Job) (t : Tally) (n s e c : ℕ) : Type 0 where
+  pub polls : t .polls ≡ t .erases * N j SECTOR + t .programs * N j PROGRAM
   pub spent : t .time ≡ t .polls * j .p + t .confirms * confirmAfter
   pub confirms : t .confirms ≡ t .erases + t .programs
   pub scans : t .scans + t .erases * j .size ≡ s

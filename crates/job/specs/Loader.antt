@@ -4,17 +4,18 @@ use mathlib.Core.Bool.{Bool, true, false}
 use mathlib.Core.List.{List}
 use lib.Dec.{eqb, ltb, leb}
 use lib.ListN.{getD, set, take, drop}
+use Rattle.parts.specs.Names.{PROGRAM, SECTOR}
 use Rattle.parts.specs.Pick.{pick}
 use Rattle.parts.specs.Width.{blankOf}
 use Rattle.chip.specs.declared.cycle.Action.{Action}
 use Rattle.chip.specs.declared.cycle.Action.the-variants.{Read, Write, Idle, Cut}
+use Rattle.chip.specs.Cycle.{cycle}
 use Rattle.driver.specs.declared.machine.Phase.{Phase}
 use Rattle.driver.specs.declared.machine.Phase.the-variants.{Writing, Polling, Confirming, Done, GaveUp, Differs}
 use Rattle.driver.specs.declared.machine.Driver.{Driver}
 use Rattle.driver.specs.declared.machine.Next.the-variants.{Nothing, Send}
 use Rattle.driver.specs.declared.machine.Step.{Step}
 use Rattle.driver.specs.Machine.{stepOf, startWriting}
-use Rattle.driver.specs.Talk.{cycle}
 use Rattle.job.specs.declared.loader.Job.{Job}
 use Rattle.job.specs.declared.loader.Stage.{Stage}
 use Rattle.job.specs.declared.loader.Stage.the-variants.{Scanning, Looking, Driving}
@@ -84,20 +85,20 @@ nextMark j image base i = i + leadingOf (blankOf (j .row .width)) (take (j .size
 unfoldable pub fillOf : Job → List ℕ → ℕ → ℕ → Turn
 fillOf j image base i =
     pick (ltb (nextMark j image base i) (j .size))
-    (beginOf j Filling base (nextMark j image base i) 0 (getD image (base + nextMark j image base i) 0))
+    (beginOf j Filling base (nextMark j image base i) PROGRAM (getD image (base + nextMark j image base i) 0))
     (nextSector j (base + j .size))
 
 -- ---- an unerased sector: a cell that differs is programmed at once
 unfoldable pub burnOf : Job → List ℕ → ℕ → ℕ → ℕ → Turn
 burnOf j image base i reply =
     pick (eqb reply (getD image (base + i) 0)) (lookOf j base (i + 1))
-    (beginOf j Burning base i 0 (getD image (base + i) 0))
+    (beginOf j Burning base i PROGRAM (getD image (base + i) 0))
 
 -- ---- the decision, from the values seen
 -- what it asks for is begun: the sector's erase, or its cells are read again
 abbrev pub carryOut : Job → ℕ → Decision → Turn
 carryOut j base NoErase = lookOf j base 0
-carryOut j base SectorErase = beginOf j Erasing base 0 1 0
+carryOut j base SectorErase = beginOf j Erasing base 0 SECTOR 0
 
 unfoldable pub decideOf : Job → List ℕ → List ℕ → ℕ → Turn
 decideOf j image seen base = carryOut j base (decisionOf (j .row .width) (take (j .size) seen) (take (j .size) (drop base image)))

@@ -4,14 +4,15 @@ use mathlib.Core.Bool.{Bool}
 use mathlib.Core.List.{List, [], _∷_, _++_, map}
 use lib.Dec.{eqb}
 use lib.ListN.{take, drop, replicate}
+use Rattle.parts.specs.Names.{PROGRAM, SECTOR}
 use Rattle.parts.specs.Pick.{pick}
 use Rattle.parts.specs.Width.{valueOf, blankOf}
 use Rattle.parts.specs.Time.{pollsOf}
 use Rattle.chip.specs.declared.cycle.Action.the-variants.{Read, Write}
+use Rattle.chip.specs.Cycle.{cycle}
 use Rattle.driver.specs.declared.writes.Write.{Write as Written}
 use Rattle.driver.specs.Writes.{writesOf}
 use Rattle.driver.specs.Machine.{confirmAfter}
-use Rattle.driver.specs.Talk.{cycle}
 use Rattle.job.specs.declared.loader.Job.{Job}
 use Rattle.job.specs.declared.loader.Purpose.the-variants.{Scan, Lead, Begin, Poll, Confirm}
 use Rattle.job.specs.declared.search.Decision.{Decision}
@@ -44,18 +45,18 @@ scans j a (suc n) = scanRead j a ∷ scans j (a + 1) n
 -- after an erase every non-blank image value is programmed, ascending
 unfoldable pub fills : Job → ℕ → List ℕ → List Sent
 fills j a [] = []
-fills j a (x ∷ v) = pick (eqb x (blankOf (j .row .width))) [] (operated j 0 a x) ++ fills j (a + 1) v
+fills j a (x ∷ v) = pick (eqb x (blankOf (j .row .width))) [] (operated j PROGRAM a x) ++ fills j (a + 1) v
 
 -- unerased, each cell is read again, ascending, and programmed at once where its value differs
 unfoldable pub looks : Job → ℕ → List ℕ → List ℕ → List Sent
 looks j a [] v = []
 looks j a (o ∷ l) [] = []
-looks j a (o ∷ l) (x ∷ v) = scanRead j a ∷ (pick (eqb (valueOf (j .row .width) o) x) [] (operated j 0 a x) ++ looks j (a + 1) l v)
+looks j a (o ∷ l) (x ∷ v) = scanRead j a ∷ (pick (eqb (valueOf (j .row .width) o) x) [] (operated j PROGRAM a x) ++ looks j (a + 1) l v)
 
 -- what a sector's decision asks for
 abbrev pub carries : Job → ℕ → List ℕ → List ℕ → Decision → List Sent
 carries j a l v NoErase = looks j a l v
-carries j a l v SectorErase = operated j 1 a 0 ++ fills j a v
+carries j a l v SectorErase = operated j SECTOR a 0 ++ fills j a v
 
 -- the decision of a sector that holds l and is to hold v, made from the values
 abbrev pub decidedOn : Job → List ℕ → List ℕ → Decision

@@ -7,10 +7,12 @@ use crate::run::Tally;
 use crate::run::no_last;
 use crate::run::run;
 use crate::total::sum;
+use parts::names::PROGRAM;
+use parts::names::SECTOR;
 ghost use mathlib.Core.Path.{_≡_};
 ghost use Prim.Native.Nat.{_-_, _≤_};
 ghost use Rattle.job.specs.Formulas.{operationTime};
-ghost use Rattle.job.specs.Bill.{Timed, billOf, firstFew, fullOf, jobOf, loadOf, refusedBill, refusedReport, reportOf, reported};
+ghost use Rattle.job.specs.Bill.{FullTimeFits, billOf, firstFew, fullOf, jobOf, loadOf, refusedBill, refusedReport, reportOf, reported};
 
 // The bill: µs saved and spent, then counts, the sum, and 0 or the refusal.
 pub struct Bill {
@@ -114,7 +116,7 @@ fn write_report(e: Ended) -> Report
 
 // The µs of an operation: N polls p apart, and the confirming read.
 fn operation_time(job: Job, command: u32) -> u64
-    requires { ⌜ Timed job ⌝ }
+    requires { ⌜ FullTimeFits job ⌝ }
     requires { ⌜ command ≤ 1 ⌝ }
     ensures { λ r. ⌜ r ≡ operationTime job command ⌝ }
 {
@@ -124,11 +126,11 @@ fn operation_time(job: Job, command: u32) -> u64
 
 // The time of a full job: every sector erased and every cell programmed.
 fn full_time(job: Job) -> u64
-    requires { ⌜ Timed job ⌝ }
+    requires { ⌜ FullTimeFits job ⌝ }
     ensures { λ r. ⌜ r ≡ fullOf job ⌝ }
 {
-    let erase = operation_time(job, 1);
-    let program = operation_time(job, 0);
+    let erase = operation_time(job, SECTOR);
+    let program = operation_time(job, PROGRAM);
     let sectors = job.count / job.size;
     sectors as u64 * erase + job.count as u64 * program
 }
@@ -145,7 +147,7 @@ fn left_of(full: u64, spent: u64) -> u64
 
 // The bill of a job's counts and sum, and the number that the loader stopped with.
 fn write_bill(job: Job, t: Tally, sum: u16, answer: u32) -> Bill
-    requires { ⌜ Timed job ⌝ }
+    requires { ⌜ FullTimeFits job ⌝ }
     ensures { λ r. ⌜ r ≡ billOf job t sum answer ⌝ }
 {
     Bill {

@@ -9,6 +9,8 @@ use driver::Next;
 use driver::Phase;
 use driver::Step;
 use parts::Row;
+use parts::names::PROGRAM;
+use parts::names::SECTOR;
 ghost use mathlib.Core.Path.{_≡_};
 ghost use Prim.Native.Nat.{_+_, _≤_, _<_};
 ghost use lib.ListN.{length};
@@ -16,7 +18,7 @@ ghost use lib.Dec.{eqb};
 ghost use mathlib.Core.Bool.{true};
 ghost use Rattle.parts.specs.Pick.{pick};
 ghost use Rattle.job.specs.Loader.{afterwards, beginOf, burnOf, carryOut, decideOf, drivenOf, fillOf, firstStep, goesOn, inJob, lookOf, nextSector, polling, purposeOf, readsCell, scannedOf, seenOf, stageOf, turnOf};
-ghost use Rattle.job.specs.Kept.{Kept};
+ghost use Rattle.job.specs.Fits.{JobFits};
 
 // A job that was not refused: its part and row, the first address, the number of image values, WP# and p.
 pub struct Job {
@@ -151,7 +153,7 @@ impl Job {
 
     // The next non-blank value of an erased sector from at on is programmed; then the next sector.
     fn fill(self, image: &[u16], base: u32, at: u32) -> Turn
-        requires { ⌜ Kept self (length (now image)) ⌝ }
+        requires { ⌜ JobFits self (length (now image)) ⌝ }
         requires { ⌜ base + self .size ≤ self .count ⌝ }
         requires { ⌜ at ≤ self .size ⌝ }
         ensures { λ r. ⌜ r ≡ fillOf self (now (image .entry)) base at ⌝ }
@@ -161,14 +163,14 @@ impl Job {
         let mark = at as usize + leading(&image[from..end], parts::blank(self.row.width));
         if mark < self.size as usize {
             let data = image[base as usize + mark];
-            return self.begin(Task::Filling, base, mark as u32, 0, data);
+            return self.begin(Task::Filling, base, mark as u32, PROGRAM, data);
         }
         self.next_sector(base + self.size)
     }
 
     // A cell of an unerased sector that differs is programmed at once.
     fn burn(self, image: &[u16], base: u32, at: u32, reply: u16) -> Turn
-        requires { ⌜ Kept self (length (now image)) ⌝ }
+        requires { ⌜ JobFits self (length (now image)) ⌝ }
         requires { ⌜ base + self .size ≤ self .count ⌝ }
         requires { ⌜ at < self .size ⌝ }
         ensures { λ r. ⌜ r ≡ burnOf self (now (image .entry)) base at reply ⌝ }
@@ -177,7 +179,7 @@ impl Job {
         if reply == data {
             return self.look(base, at + 1);
         }
-        self.begin(Task::Burning, base, at, 0, data)
+        self.begin(Task::Burning, base, at, PROGRAM, data)
     }
 
     // What a decision asks for is begun: the sector's erase, or its cells are read again.
@@ -188,13 +190,13 @@ impl Job {
     {
         match decision {
             Decision::NoErase => self.look(base, 0),
-            Decision::SectorErase => self.begin(Task::Erasing, base, 0, 1, 0),
+            Decision::SectorErase => self.begin(Task::Erasing, base, 0, SECTOR, 0),
         }
     }
 
     // The sector's decision, from the values seen.
     fn decide(self, image: &[u16], seen: &[u16], base: u32) -> Turn
-        requires { ⌜ Kept self (length (now image)) ⌝ }
+        requires { ⌜ JobFits self (length (now image)) ⌝ }
         requires { ⌜ base + self .size ≤ self .count ⌝ }
         requires { ⌜ self .size ≤ length (now seen) ⌝ }
         ensures { λ r. ⌜ r ≡ decideOf self (now (image .entry)) (now (seen .entry)) base ⌝ }
@@ -208,7 +210,7 @@ impl Job {
 
     // What follows an operation.
     fn then(self, image: &[u16], task: Task, base: u32, at: u32) -> Turn
-        requires { ⌜ Kept self (length (now image)) ⌝ }
+        requires { ⌜ JobFits self (length (now image)) ⌝ }
         requires { ⌜ base + self .size ≤ self .count ⌝ }
         requires { ⌜ at < self .size ⌝ }
         ensures { λ r. ⌜ r ≡ afterwards self (now (image .entry)) task base at ⌝ }
@@ -222,7 +224,7 @@ impl Job {
 
     // A driver's step: its cycle, or what follows.
     fn driven(self, image: &[u16], task: Task, base: u32, at: u32, step: Step) -> Turn
-        requires { ⌜ Kept self (length (now image)) ⌝ }
+        requires { ⌜ JobFits self (length (now image)) ⌝ }
         requires { ⌜ base + self .size ≤ self .count ⌝ }
         requires { ⌜ at < self .size ⌝ }
         ensures { λ r. ⌜ r ≡ drivenOf self (now (image .entry)) task base at step ⌝ }
@@ -237,7 +239,7 @@ impl Job {
 
     // An operation has ended.
     fn ended(self, image: &[u16], task: Task, base: u32, at: u32, answer: u32) -> Turn
-        requires { ⌜ Kept self (length (now image)) ⌝ }
+        requires { ⌜ JobFits self (length (now image)) ⌝ }
         requires { ⌜ base + self .size ≤ self .count ⌝ }
         requires { ⌜ at < self .size ⌝ }
         ensures { λ r. ⌜ r ≡ pick (eqb answer 0) (afterwards self (now (image .entry)) task base at) (Turn.Stop answer) ⌝ }
@@ -250,7 +252,7 @@ impl Job {
 
     // The scan goes on to the sector's end, then decides.
     fn scanned(self, image: &[u16], seen: &[u16], base: u32, at: u32) -> Turn
-        requires { ⌜ Kept self (length (now image)) ⌝ }
+        requires { ⌜ JobFits self (length (now image)) ⌝ }
         requires { ⌜ base + self .size ≤ self .count ⌝ }
         requires { ⌜ at < self .size ⌝ }
         requires { ⌜ self .size ≤ length (now seen) ⌝ }
@@ -324,7 +326,7 @@ impl Loader {
 
     // What the stage does, the reply of a scan being among the values seen.
     fn stage_turn(self, job: Job, image: &[u16], seen: &[u16], reply: u16) -> Turn
-        requires { ⌜ Kept job (length (now image)) ⌝ }
+        requires { ⌜ JobFits job (length (now image)) ⌝ }
         requires { ⌜ self .base + job .size ≤ job .count ⌝ }
         requires { ⌜ self .at < job .size ⌝ }
         requires { ⌜ job .size ≤ length (now seen) ⌝ }
@@ -356,7 +358,7 @@ impl Loader {
 
     // The turn after a reply.
     pub(crate) fn turn(self, job: Job, image: &[u16], seen: &mut [u16; 4096], reply: u16) -> Turn
-        requires { ⌜ Kept job (length (now image)) ⌝ }
+        requires { ⌜ JobFits job (length (now image)) ⌝ }
         ensures { λ r. ⌜ (r ≡ turnOf job (now (image .entry)) (now (seen .entry)) self reply .turn) × (now (seen .exit) ≡ turnOf job (now (image .entry)) (now (seen .entry)) self reply .seen) ⌝ }
     {
         if !self.is_in_job(job) {
