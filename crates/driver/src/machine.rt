@@ -14,7 +14,7 @@ ghost use mathlib.Core.Path.{_≡_};
 ghost use Prim.Native.Nat.{_<_, _≤_};
 ghost use lib.Dec.{eqb, leb, ltb};
 ghost use Rattle.parts.specs.Table.{foundOf};
-ghost use Rattle.driver.specs.Machine.{addressOf, afterWrite, bitSeven, bitWanted, confirmingOf, confirms, countFits, dataOf, driver, inRange, matches, mostPolls, moved, noDriver, pollingOf, polls, someUpTo, startOf, startWriting, step, stepOf, valueWanted, writingOf};
+ghost use Rattle.driver.specs.Machine.{addressOf, afterWrite, bitSeven, bitWanted, confirmingOf, confirms, countFits, dataOf, driver, inRange, matches, mostPolls, moved, pollingOf, polls, someUpTo, startOf, startWriting, step, stepOf, valueWanted, writingOf};
 ghost use Rattle.driver.specs.Fits.{CodesAndTimesFit};
 ghost use Rattle.driver.specs.Writes.{writeCount};
 
@@ -127,13 +127,6 @@ fn begin(part: u32, command: u32, address: u32, data: u16, p: u32) -> Driver
     }
 }
 
-// No driver: what a refused start hands back.
-fn no_driver() -> Driver
-    ensures { λ r. ⌜ r ≡ noDriver ⌝ }
-{
-    begin(0, 0, 0, 0, 0)
-}
-
 // Starts a command on a part that was looked up.
 fn start_on(found: Found, part: u32, command: u32, address: u32, data: u16, p: u32) -> Started
     requires { ⌜ found ≡ foundOf part ⌝ }
@@ -143,7 +136,7 @@ fn start_on(found: Found, part: u32, command: u32, address: u32, data: u16, p: u
     if 0 < answer {
         return Started {
             answer,
-            driver: no_driver(),
+            driver: begin(0, 0, 0, 0, 0),
         };
     }
     let a = address_of(command, address);

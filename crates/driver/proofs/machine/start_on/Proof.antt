@@ -13,7 +13,7 @@ unfolding startOf
 returns c = let g = c .before .before .before .args in
     let q = c .before .before .start-refusal in
     let h = start-found (g .found) (g .part) (g .command) (g .address) (g .«data») (q .result) (c .before .before .before .pre) (g .p) (q .ensures) in
-    simp (sym h, ne-eqb (c .before .before .start-refusal .result) 0 (λ z. omega arith), c .no-driver .ensures)
+    simp (sym h, ne-eqb (c .before .before .start-refusal .result) 0 (λ z. omega arith), c .begin .ensures)
 
 returns-2 : tie.Need-returns-2
 unfolding startOf
@@ -21,7 +21,7 @@ returns-2 c = let g = c .before .before .before .before .before .args in
     let q = c .before .before .before .before .start-refusal in
     let h = start-found (g .found) (g .part) (g .command) (g .address) (g .«data») (q .result) (c .before .before .before .before .before .pre) (g .p) (q .ensures) in
     let z : c .before .before .before .before .start-refusal .result ≡ 0 = omega arith in
-    simp (sym h, eq-eqb _ _ z, c .begin .ensures, c .before .before .address-of .ensures, c .before .data-of .ensures)
+    simp (sym h, eq-eqb _ _ z, c .begin2 .ensures, c .before .before .address-of .ensures, c .before .data-of .ensures)
 
 pub start-on-spec : {M : Type 1} → statement M
 start-on-spec =
