@@ -1,9 +1,9 @@
 -- What is known of an accepted cycle and of a state in range.
 use Prim.Native.Nat.{ℕ, _+_, _≤_, _<_}
 use mathlib.Core.Path.{_≡_, refl}
-use mathlib.Core.Bool.{Bool, true, false}
+use mathlib.Core.Bool.{true, false}
 use native.Mathlib.Omega.{arith}
-use borrow.Author.Tests.{ltb-true, ltb-false, lt-ltb, le-ltb, eqb-true, eq-eqb}
+use borrow.Author.Tests.{ltb-true, ltb-false, lt-ltb, le-ltb, le-leb, eqb-true, eq-eqb}
 use lib.Dec.{eqb, ltb}
 use Rattle.parts.specs.Pick.{pick}
 use Rattle.parts.specs.Width.{fitsIn}
@@ -12,12 +12,12 @@ use Rattle.parts.specs.Span.{hasBlocks}
 use Rattle.parts.specs.Time.{hasCommand, timeOf}
 use Rattle.parts.specs.declared.span.Span.{Span}
 use Rattle.parts.specs.declared.table.Row.{Row}
-use Rattle.parts.proofs.Every.{apart, both, unless, given, split}
-use Rattle.parts.proofs.Sound.{width-most, u1-compared, device-word}
+use Rattle.parts.proofs.Every.{apart, both, unless, given, pick-same, split}
+use Rattle.parts.proofs.Sound.{width-most, device-word}
 use Rattle.parts.proofs.Ranges.{sector-fits, block-fits}
 use Rattle.parts.proofs.Refused.{zero-left, none-first}
-use Rattle.chip.specs.declared.device.Mode.{Mode}
-use Rattle.chip.specs.declared.device.Mode.the-variants.{ReadMode, Identification}
+use Rattle.commands.specs.declared.effect.Mode.{Mode}
+use Rattle.commands.specs.declared.effect.Mode.the-variants.{ReadMode, Identification}
 use Rattle.chip.specs.declared.device.Operation.{Operation}
 use Rattle.chip.specs.declared.device.Core.{Core}
 use Rattle.chip.specs.declared.device.Device.{Device}
@@ -26,8 +26,7 @@ use Rattle.chip.specs.declared.cycle.Action.the-variants.{Read, Write}
 use Rattle.chip.specs.Device.{device, busy, reads, validOperation, coreInRange, stageInRange, deviceInRange}
 use Rattle.chip.specs.Operation.{cellsOf}
 use Rattle.chip.specs.Cycle.{actionRefusal, cycleRefusal}
-use Rattle.chip.specs.Sized.{Sized, Runs}
-use Rattle.chip.proofs.Bits.{pick-same}
+use Rattle.chip.specs.Needs.{InWords, RunsInside}
 
 -- ---- an accepted cycle
 pub record Accepted (part n : ℕ) (d : Device) (a : Action) : Type 0 where
@@ -102,28 +101,28 @@ stage-none k = pick-same (busy k) true
 
 pub stage-rests : (k : Core) (s : ℕ) → busy k ≡ false → s ≤ 6 → stageInRange k s ≡ true
 unfolding stageInRange
-stage-rests k s b h = simp (b, lt-ltb s 7 (omega arith))
+stage-rests k s b h = simp (b, le-leb s 6 h)
 
 pub stage-busy : (k : Core) (s : ℕ) → stageInRange k s ≡ true → busy k ≡ true → s ≡ 0
 unfolding stageInRange
 stage-busy k s i b = eqb-true s 0 (rw b at i)
 
 -- ---- a known part
-pub sized : (n : ℕ) → partRefusal n ≡ 0 → Sized (rowOf n)
-sized n k = record { narrow = width-most n k; compares = omega (arith, u1-compared n k); identifies = device-word n k }
+pub in-words : (n : ℕ) → partRefusal n ≡ 0 → InWords (rowOf n)
+in-words n k = record { values = width-most n k; identity = device-word n k }
 
 -- the cells of an operation lie among the part's
-pub within-cells : (n : ℕ) → partRefusal n ≡ 0 → (o : Operation) → hasCommand (rowOf n) (o .kind) ≡ true → o .address < rowOf n .cells
+pub inside-cells : (n : ℕ) → partRefusal n ≡ 0 → (o : Operation) → hasCommand (rowOf n) (o .kind) ≡ true → o .address < rowOf n .cells
     → cellsOf (rowOf n) o .first + cellsOf (rowOf n) o .count ≤ rowOf n .cells
 unfolding cellsOf hasCommand
-within-cells n k o c t =
-    split Within (eqb (o .kind) 0) _ _ (λ _. omega arith)
-    (λ _. split Within (eqb (o .kind) 1) _ _ (λ _. sector-fits n k (o .address) t)
-    (λ _. split Within (eqb (o .kind) 2) _ _ (λ e. block-fits n k (o .address) t (given (eqb (o .kind) 2) (hasBlocks (rowOf n)) e (unless (ltb 3 (o .kind)) (pick (eqb (o .kind) 2) (hasBlocks (rowOf n)) true) c .1))) (λ _. omega arith)))
+inside-cells n k o c t =
+    split Inside (eqb (o .kind) 0) _ _ (λ _. omega arith)
+    (λ _. split Inside (eqb (o .kind) 1) _ _ (λ _. sector-fits n k (o .address) t)
+    (λ _. split Inside (eqb (o .kind) 2) _ _ (λ e. block-fits n k (o .address) t (given (eqb (o .kind) 2) (hasBlocks (rowOf n)) e (unless (ltb 3 (o .kind)) (pick (eqb (o .kind) 2) (hasBlocks (rowOf n)) true) c .1))) (λ _. omega arith)))
   where
-    Within : Span → Type 0
-    Within s = s .first + s .count ≤ rowOf n .cells
+    Inside : Span → Type 0
+    Inside s = s .first + s .count ≤ rowOf n .cells
 
-pub runs : (n : ℕ) → partRefusal n ≡ 0 → (k : Core) (m : ℕ) → coreInRange (rowOf n) k ≡ true → m ≡ rowOf n .cells → Runs (rowOf n) k m
-runs n known k m e w =
-    record { within = λ b. let v = pending (rowOf n) k e b in omega (arith, within-cells n known (k .running) (v .command) (v .there)) }
+pub runs-inside : (n : ℕ) → partRefusal n ≡ 0 → (k : Core) (m : ℕ) → coreInRange (rowOf n) k ≡ true → m ≡ rowOf n .cells → RunsInside (rowOf n) k m
+runs-inside n known k m e w =
+    record { inside = λ b. let v = pending (rowOf n) k e b in omega (arith, inside-cells n known (k .running) (v .command) (v .there)) }

@@ -11,19 +11,16 @@ use Rattle.parts.specs.Table.{rowOf, partRefusal}
 use Rattle.parts.specs.declared.table.Row.{Row}
 use Rattle.chip.specs.declared.device.Core.{Core}
 use Rattle.chip.specs.declared.device.Device.{Device}
-use Rattle.chip.specs.declared.cycle.Action.{Action}
 use Rattle.chip.specs.declared.cycle.Action.the-variants.{Read, Write}
 use Rattle.chip.specs.declared.cycle.Cycle.{Cycle}
 use Rattle.chip.specs.Device.{withLeft, toggled, withRunning, atRest, busy, device, coreInRange, coreIdle}
 use Rattle.chip.specs.Operation.{completeOn}
-use Rattle.chip.specs.Sequence.{effectOf, afterEffect, writtenOf}
-use Rattle.chip.specs.Cycle.{chip, outcome, reply, settled, settledOf, status, readOf, actionRefusal, cycleRefusal, acceptedOf, cycleOf}
+use Rattle.commands.specs.Commands.{effectOf}
+use Rattle.chip.specs.Sequence.{afterEffect, writtenOf}
+use Rattle.chip.specs.Cycle.{chip, cycle, outcome, reply, settled, settledOf, status, readOf, actionRefusal, cycleRefusal, acceptedOf, cycleOf}
 use Rattle.chip.specs.Trace.{after, effectStarts, startedBy}
 use Rattle.chip.proofs.Accepted.{Accepted, accepting, Valid, valid-range, rest-range, in-range, stage-none, stage-rests}
 use Rattle.chip.proofs.Idle.{idle-rests, idle-reads, idle-range}
-
-abbrev pub cycle : ℕ → Bool → Action → Cycle
-cycle e wp a = record { elapsed = e; wp = wp; action = a }
 
 -- ---- accepted or refused
 pub accepted-cycle : (part : ℕ) (cells : List ℕ) (d : Device) (c : Cycle) → Accepted part (length cells) d (c .action) → cycleOf part cells d c ≡ acceptedOf (rowOf part) cells d c
@@ -82,7 +79,7 @@ module _ (part : ℕ) (cells : List ℕ) (known : partRefusal part ≡ 0) (whole
         ≡ outcome (completeOn (rowOf part) (k .running) cells) (valueOf (rowOf part .width) (getD (completeOn (rowOf part) (k .running) cells) a 0)) (device (atRest k) 0)
     unfolding acceptedOf readOf
     read-done s l =
-        read-accepted k e wp (valid-range (rowOf part) k v) ∙ rw (completes (rowOf part) cells k e s l) (simp (v .mode))
+        read-accepted k e wp (valid-range (rowOf part) k v) ∙ rw (completes (rowOf part) cells k e s l, v .mode)
 
   -- a write at rest, at a stage
   module _ (k : Core) (s e : ℕ) (wp : Bool) (x : ℕ) (b : busy k ≡ false) (le : s ≤ 6) (fits : fitsIn (rowOf part .width) x ≡ true) where

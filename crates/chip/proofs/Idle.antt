@@ -6,7 +6,7 @@ use borrow.Author.Tests.{eqb-true}
 use lib.Dec.{eqb}
 use Rattle.parts.specs.declared.table.Row.{Row}
 use Rattle.parts.proofs.Every.{both, unless}
-use Rattle.chip.specs.declared.device.Mode.the-variants.{ReadMode}
+use Rattle.commands.specs.declared.effect.Mode.the-variants.{ReadMode}
 use Rattle.chip.specs.declared.device.Operation.{Operation}
 use Rattle.chip.specs.declared.device.Core.{Core}
 use Rattle.chip.specs.declared.device.Device.{Device}

@@ -5,7 +5,7 @@ pub mod Accepted
 pub mod Idle
 pub mod Settled
 pub mod Cases
-pub mod Effects
+pub mod Started
 pub mod Trace
 pub mod Ranges
 pub mod Determined

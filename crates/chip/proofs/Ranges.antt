@@ -2,7 +2,7 @@
 use Prim.Native.Nat.{ℕ, _≤_, _<_}
 use mathlib.Core.Path.{_≡_, refl, _∙_}
 use mathlib.Core.Bool.{Bool, true, false}
-use mathlib.Core.List.{List, [], _∷_, _++_}
+use mathlib.Core.List.{List, [], _∷_}
 use native.Mathlib.Nat.{le-refl}
 use borrow.Author.Tests.{eqb-true}
 use lib.Dec.{eqb}
@@ -12,25 +12,24 @@ use Rattle.parts.specs.Table.{rowOf}
 use Rattle.parts.specs.Time.{hasCommand}
 use Rattle.parts.specs.declared.table.Row.{Row}
 use Rattle.parts.proofs.Every.{split}
-use Rattle.chip.specs.declared.device.Mode.{Mode}
-use Rattle.chip.specs.declared.device.Mode.the-variants.{ReadMode}
-use Rattle.chip.specs.declared.device.Operation.{Operation}
+use Rattle.commands.specs.declared.effect.Mode.{Mode}
+use Rattle.commands.specs.declared.effect.Mode.the-variants.{ReadMode}
 use Rattle.chip.specs.declared.device.Core.{Core}
 use Rattle.chip.specs.declared.device.Device.{Device}
-use Rattle.chip.specs.declared.sequence.Effect.{Effect}
-use Rattle.chip.specs.declared.sequence.Effect.the-variants.{Goes, Starts, Enters}
+use Rattle.commands.specs.declared.effect.Effect.{Effect}
+use Rattle.commands.specs.declared.effect.Effect.the-variants.{Goes, Starts, Enters}
 use Rattle.chip.specs.declared.cycle.Action.{Action}
 use Rattle.chip.specs.declared.cycle.Action.the-variants.{Read, Write, Idle, Cut}
 use Rattle.chip.specs.declared.cycle.Cycle.{Cycle}
 use Rattle.chip.specs.declared.cycle.Shown.{Shown}
 use Rattle.chip.specs.Device.{toggled, inMode, withRunning, busyWith, freshCore, busy, device, withCore, stageInRange, deviceInRange}
 use Rattle.chip.specs.Sequence.{ignored, newOperation, afterEffect, writtenOf}
-use Rattle.chip.specs.Cycle.{Chip, Outcome, readOf, cutOf, actionRefusal, cycleRefusal, passed, actedOf, acceptedOf, cycleOf}
-use Rattle.chip.specs.Sized.{Runs}
-use Rattle.chip.specs.Trace.{after, play, effectStarts, actionStarts, startedBy, startedIn}
-use Rattle.chip.proofs.Accepted.{Accepted, accepted, Valid, pending, valid-range, rest-range, in-range, ranges, stage-none, stage-rests, write-there, runs}
-use Rattle.chip.proofs.Settled.{settled-length, passed-range, cut-length}
-use Rattle.chip.proofs.Effects.{effect-is}
+use Rattle.chip.specs.Cycle.{Chip, Outcome, readOf, cutOf, actionRefusal, cycleRefusal, afterTime, actedOf, acceptedOf, cycleOf}
+use Rattle.chip.specs.Needs.{RunsInside}
+use Rattle.chip.specs.Trace.{after, play}
+use Rattle.chip.proofs.Accepted.{Accepted, accepted, Valid, pending, valid-range, rest-range, in-range, ranges, stage-none, stage-rests, write-there, runs-inside}
+use Rattle.chip.proofs.Settled.{settled-length, after-time-range, cut-length}
+use Rattle.commands.proofs.Effects.{effect-is}
 use Rattle.chip.proofs.Cases.{accepted-cycle}
 
 -- ---- a state in range stays so
@@ -83,16 +82,16 @@ pub after-range : (part : ℕ) (h : Chip) (c : Cycle) → Accepted part (length 
 unfolding after acceptedOf
 after-range part h c w =
     rw (accepted-cycle part (h .cells) (h .device) c w)
-    (acted-range (rowOf part) (passed (rowOf part) h (c .elapsed)) (c .wp) (c .action) (passed-range (rowOf part) h (c .elapsed) (w .state)) (w .reach))
+    (acted-range (rowOf part) (afterTime (rowOf part) h (c .elapsed)) (c .wp) (c .action) (after-time-range (rowOf part) h (c .elapsed) (w .state)) (w .reach))
 
 -- ---- no cell is gained or lost
-acted-length : (r : Row) (h : Chip) (wp : Bool) (a : Action) → Runs r (h .device .core) (length (h .cells)) → length (actedOf r h wp a .cells) ≡ length (h .cells)
+acted-length : (r : Row) (h : Chip) (wp : Bool) (a : Action) → RunsInside r (h .device .core) (length (h .cells)) → length (actedOf r h wp a .cells) ≡ length (h .cells)
 unfolding cutOf
 acted-length r h wp (Read a) w = refl
 acted-length r h wp (Write a x) w = refl
 acted-length r h wp Idle w = refl
 acted-length r h wp (Cut s) w =
-    split (λ (l : List ℕ). length l ≡ length (h .cells)) (busy (h .device .core)) _ _ (λ b. cut-length r (h .device .core .running) (h .cells) (w .within b) s) (λ _. refl)
+    split (λ (l : List ℕ). length l ≡ length (h .cells)) (busy (h .device .core)) _ _ (λ b. cut-length r (h .device .core .running) (h .cells) (w .inside b) s) (λ _. refl)
 
 pub after-length : (part : ℕ) (h : Chip) (c : Cycle) → length (after part h c .cells) ≡ length (h .cells)
 unfolding after cycleOf acceptedOf
@@ -103,50 +102,13 @@ after-length part h c =
     r = rowOf part
 
     s : Chip
-    s = passed r h (c .elapsed)
+    s = afterTime r h (c .elapsed)
 
     kept : Accepted part (length (h .cells)) (h .device) (c .action) → length (actedOf r s (c .wp) (c .action) .cells) ≡ length (h .cells)
     kept w =
-        let e = settled-length r (h .cells) (h .device .core) (c .elapsed) (runs part (w .known) (h .device .core) (length (h .cells)) (ranges r (h .device) (w .state) .1) (w .whole)) in
-        acted-length r s (c .wp) (c .action) (runs part (w .known) (s .device .core) (length (s .cells)) (ranges r (s .device) (passed-range r h (c .elapsed) (w .state)) .1) (e ∙ w .whole)) ∙ e
+        let e = settled-length r (h .cells) (h .device .core) (c .elapsed) (runs-inside part (w .known) (h .device .core) (length (h .cells)) (ranges r (h .device) (w .state) .1) (w .whole)) in
+        acted-length r s (c .wp) (c .action) (runs-inside part (w .known) (s .device .core) (length (s .cells)) (ranges r (s .device) (after-time-range r h (c .elapsed) (w .state)) .1) (e ∙ w .whole)) ∙ e
 
 pub play-length : (part : ℕ) (cs : List Cycle) (h : Chip) → length (play part h cs .cells) ≡ length (h .cells)
 play-length part [] h = refl
 play-length part (c ∷ cs) h = play-length part cs (after part h c) ∙ after-length part h c
-
--- ---- the operations that a list of cycles starts are the part's: a command it has, an address of it, data that fits, its table time
-pub record Startable (r : Row) (o : Operation) : Type 0 where
-  pub command : hasCommand r (o .kind) ≡ true
-  pub there : o .address < r .cells
-  pub fits : fitsIn (r .width) (o .«data») ≡ true
-
-abbrev pub All : (Operation → Type 0) → List Operation → Type 0
-All P [] = Unit {0}
-All P (o ∷ os) = P o × All P os
-
-all-append : (P : Operation → Type 0) (os ps : List Operation) → All P os → All P ps → All P (os ++ ps)
-all-append P [] ps a b = b
-all-append P (o ∷ os) ps a b = (a .0, all-append P os ps (a .1) b)
-
-action-starts : (r : Row) (d : Device) (wp : Bool) (a : Action) → actionRefusal r a ≡ 0 → All (Startable r) (actionStarts r d wp a)
-action-starts r d wp (Read a) z = tt
-action-starts r d wp (Write a x) z =
-    let t = write-there r a x z in
-    split Good (busy (d .core)) _ _ (λ _. tt)
-    (λ _. effect-is (λ (e : Effect). Good (effectStarts r wp a x e)) r (d .stage) a x (λ _ _. tt)
-    (λ k c. split Good (ignored r wp k a) _ _ (λ _. tt) (λ _. (record { command = c; there = t .0; fits = t .1 }, tt))) (λ _. tt))
-  where
-    Good : List Operation → Type 0
-    Good = All (Startable r)
-action-starts r d wp Idle z = tt
-action-starts r d wp (Cut s) z = tt
-
-started-by : (part : ℕ) (h : Chip) (c : Cycle) → All (Startable (rowOf part)) (startedBy part h c)
-unfolding startedBy
-started-by part h c =
-    split (All (Startable (rowOf part))) (eqb (cycleRefusal part (length (h .cells)) (h .device) (c .action)) 0) _ _
-    (λ e. action-starts (rowOf part) (passed (rowOf part) h (c .elapsed) .device) (c .wp) (c .action) (accepted part _ _ _ (eqb-true _ _ e) .reach)) (λ _. tt)
-
-pub started-all : (part : ℕ) (cs : List Cycle) (h : Chip) → All (Startable (rowOf part)) (startedIn part h cs)
-started-all part [] h = tt
-started-all part (c ∷ cs) h = all-append (Startable (rowOf part)) (startedBy part h c) (startedIn part (after part h c) cs) (started-by part h c) (started-all part cs (after part h c))

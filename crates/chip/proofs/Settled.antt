@@ -4,7 +4,6 @@ use mathlib.Core.Path.{_≡_, refl, sym, ap, ap₂, _∙_}
 use mathlib.Core.Bool.{true}
 use mathlib.Core.List.{List}
 use native.Mathlib.Omega.{arith}
-use borrow.Author.Tests.{ne-eqb}
 use lib.Dec.{ltb}
 use lib.ListN.{length}
 use Rattle.parts.specs.Table.{rowOf, foundOf}
@@ -18,10 +17,11 @@ use Rattle.chip.specs.declared.cycle.Cycle.{Cycle}
 use Rattle.chip.specs.declared.cycle.Reply.{Reply}
 use Rattle.chip.specs.Device.{withLeft, withRunning, atRest, busy, device, withCore, coreInRange, stageInRange, deviceInRange}
 use Rattle.chip.specs.Operation.{cellsOf, completeOn, cutOn, finished, scarred}
-use Rattle.chip.specs.Cycle.{Chip, chip, reply, Settled, settledOf, passed, actionRefusal, cycleRefusalOn, cycleRefusal, actedOf, acceptedOf, cycleOf}
-use Rattle.chip.specs.Sized.{Sized, Runs}
+use Rattle.chip.specs.Cycle.{Chip, chip, reply, Settled, settledOf, afterTime, actionRefusal, cycleRefusalOn, cycleRefusal, actedOf, acceptedOf, cycleOf}
+use Rattle.chip.specs.Needs.{InWords, RunsInside}
 use Rattle.chip.proofs.Over.{over-length}
-use Rattle.chip.proofs.Accepted.{accepted, pending, valid-range, rest-range, in-range, ranges, stage-none, stage-busy, sized, runs}
+use Rattle.chip.proofs.Cases.{refused-cycle}
+use Rattle.chip.proofs.Accepted.{accepted, pending, valid-range, rest-range, in-range, ranges, stage-none, stage-busy, in-words, runs-inside}
 
 module _ (r : Row) (o : Operation) (cells : List ℕ) (h : cellsOf r o .first + cellsOf r o .count ≤ length cells) where
   pub complete-length : length (completeOn r o cells) ≡ length cells
@@ -32,17 +32,17 @@ module _ (r : Row) (o : Operation) (cells : List ℕ) (h : cellsOf r o .first + 
   unfolding cutOn
   cut-length scar = over-length (scarred r o scar) (cellsOf r o) cells h
 
-pub settled-length : (r : Row) (cells : List ℕ) (k : Core) (e : ℕ) → Runs r k (length cells) → length (settledOf r cells k e .cells) ≡ length cells
+pub settled-length : (r : Row) (cells : List ℕ) (k : Core) (e : ℕ) → RunsInside r k (length cells) → length (settledOf r cells k e .cells) ≡ length cells
 unfolding settledOf
 settled-length r cells k e w =
-    split Kept (busy k) _ _ (λ b. split Kept (ltb e (k .running .left)) _ _ (λ _. refl) (λ _. complete-length r (k .running) cells (w .within b))) (λ _. refl)
+    split Kept (busy k) _ _ (λ b. split Kept (ltb e (k .running .left)) _ _ (λ _. refl) (λ _. complete-length r (k .running) cells (w .inside b))) (λ _. refl)
   where
     Kept : Settled → Type 0
     Kept s = length (s .cells) ≡ length cells
 
-pub passed-range : (r : Row) (h : Chip) (e : ℕ) → deviceInRange r (h .device) ≡ true → deviceInRange r (passed r h e .device) ≡ true
+pub after-time-range : (r : Row) (h : Chip) (e : ℕ) → deviceInRange r (h .device) ≡ true → deviceInRange r (afterTime r h e .device) ≡ true
 unfolding settledOf
-passed-range r h e i =
+after-time-range r h e i =
     split InRange (busy k) _ _
     (λ b. let v = pending r k (w .1) b in
     let none : h .device .stage ≡ 0 = stage-busy k (h .device .stage) (w .0) b in
@@ -77,21 +77,21 @@ module _ (part : ℕ) (f : Found) (cells cells′ : List ℕ) (d d′ : Device) 
   row : f .row ≡ rowOf part
   row = ap (λ (f : Found). f .row) found
 
-  pub ready-settle : Sized (f .row) × Runs (f .row) (d .core) (length cells)
+  pub ready-settle : InWords (f .row) × RunsInside (f .row) (d .core) (length cells)
   ready-settle =
       let w = accepted part (length cells) d (c .action) zero in
-      rw row (sized part (w .known), runs part (w .known) (d .core) (length cells) (ranges (rowOf part) d (w .state) .1) (w .whole))
+      rw row (in-words part (w .known), runs-inside part (w .known) (d .core) (length cells) (ranges (rowOf part) d (w .state) .1) (w .whole))
 
   module _ (left : cells′ ≡ settledOf (f .row) cells (d .core) (c .elapsed) .cells) (core : k′ ≡ settledOf (f .row) cells (d .core) (c .elapsed) .core) (device : d′ ≡ withCore d k′) where
-    reached : chip cells′ d′ ≡ passed (f .row) (chip cells d) (c .elapsed)
+    reached : chip cells′ d′ ≡ afterTime (f .row) (chip cells d) (c .elapsed)
     reached = ap₂ {A = List ℕ} {B = Device} {C = Chip} chip left (device ∙ ap (withCore d) core)
 
-    pub ready-act : Sized (f .row) × (Runs (f .row) (d′ .core) (length cells′) × ((f .row .cells ≡ length cells′) × (actionRefusal (f .row) (c .action) ≡ 0)))
+    pub ready-act : InWords (f .row) × (RunsInside (f .row) (d′ .core) (length cells′) × ((f .row .cells ≡ length cells′) × (actionRefusal (f .row) (c .action) ≡ 0)))
     ready-act =
         let w = accepted part (length cells) d (c .action) zero in
         let whole : length cells′ ≡ rowOf part .cells = ap length left ∙ (settled-length (f .row) cells (d .core) (c .elapsed) (ready-settle .1) ∙ w .whole) in
-        let state : deviceInRange (rowOf part) d′ ≡ true = rw (ap (λ (h : Chip). h .device) reached, row) (passed-range (rowOf part) (chip cells d) (c .elapsed) (w .state)) in
-        (ready-settle .0, (rw row (runs part (w .known) (d′ .core) (length cells′) (ranges (rowOf part) d′ state .1) whole), (rw row (sym whole), rw row (w .reach))))
+        let state : deviceInRange (rowOf part) d′ ≡ true = rw (ap (λ (h : Chip). h .device) reached, row) (after-time-range (rowOf part) (chip cells d) (c .elapsed) (w .state)) in
+        (ready-settle .0, (rw row (runs-inside part (w .known) (d′ .core) (length cells′) (ranges (rowOf part) d′ state .1) whole), (rw row (sym whole), rw row (w .reach))))
 
     pub whole-cycle : (x : Reply) (y : List ℕ) → x ≡ actedOf (f .row) (chip cells′ d′) (c .wp) (c .action) .reply → y ≡ actedOf (f .row) (chip cells′ d′) (c .wp) (c .action) .cells
         → (x ≡ cycleOf part cells d c .reply) × (y ≡ cycleOf part cells d c .cells)
@@ -101,8 +101,11 @@ module _ (part : ℕ) (f : Found) (cells cells′ : List ℕ) (d d′ : Device) 
 -- a cycle that is refused
 pub refused-whole : (part : ℕ) (f : Found) (cells : List ℕ) (d : Device) (c : Cycle) (n : ℕ) → f ≡ foundOf part → n ≡ cycleRefusalOn f (length cells) d (c .action) → 0 < n
     → (reply n 0 d ≡ cycleOf part cells d c .reply) × (cells ≡ cycleOf part cells d c .cells)
-unfolding cycleOf cycleRefusal
+unfolding cycleRefusal
 refused-whole part f cells d c n found asked some =
-    let e : n ≡ cycleRefusalOn (foundOf part) (length cells) d (c .action) = rw found at asked in
-    let one : n ≡ 0 → ⊥ = λ z. omega arith in
-    simp (sym e, ne-eqb n 0 one) (refl, refl)
+    let e : n ≡ cycleRefusal part (length cells) d (c .action) = rw found at asked in
+    let o = refused-cycle part cells d c (λ z. none (e ∙ z)) in
+    rw (o, ← e) (refl, refl)
+  where
+    none : n ≡ 0 → ⊥
+    none z = omega arith

@@ -16,19 +16,20 @@ use Rattle.parts.proofs.Sound.{time-some}
 use Rattle.chip.specs.declared.device.Operation.{Operation}
 use Rattle.chip.specs.declared.device.Core.{Core}
 use Rattle.chip.specs.declared.device.Device.{Device}
-use Rattle.chip.specs.declared.sequence.Effect.{Effect}
+use Rattle.commands.specs.declared.effect.Effect.{Effect}
 use Rattle.chip.specs.declared.cycle.Action.{Action}
 use Rattle.chip.specs.declared.cycle.Action.the-variants.{Read, Write, Idle, Cut}
 use Rattle.chip.specs.declared.cycle.Cycle.{Cycle}
 use Rattle.chip.specs.declared.cycle.Shown.{Shown}
-use Rattle.chip.specs.Device.{busy, coreIdle, idle}
+use Rattle.chip.specs.Device.{busy, idle}
 use Rattle.chip.specs.Operation.{cellsOf, completeOn}
-use Rattle.chip.specs.Sequence.{ignored, coreAfter, effectOf, writtenOf}
-use Rattle.chip.specs.Cycle.{Chip, Outcome, Settled, settledOf, passed, readOf, actedOf, cycleRefusal, acceptedOf, cycleOf}
-use Rattle.chip.specs.Trace.{leaves, after, play, effectStarts, actionStarts, startedBy, startedIn, perform, uncutAction, uncut}
+use Rattle.commands.specs.Commands.{effectOf}
+use Rattle.chip.specs.Sequence.{ignored, coreAfter, writtenOf}
+use Rattle.chip.specs.Cycle.{Chip, Outcome, Settled, settledOf, afterTime, readOf, actedOf, cycleRefusal, acceptedOf, cycleOf}
+use Rattle.chip.specs.Trace.{leaves, after, play, effectStarts, actionStarts, startedBy, startedIn, completeAll, uncutAction, uncut}
 use Rattle.chip.proofs.Accepted.{Accepted, accepted}
 use Rattle.chip.proofs.Idle.{idle-is, idle-rests}
-use Rattle.chip.proofs.Effects.{effect-is}
+use Rattle.commands.proofs.Effects.{effect-is}
 
 -- two choices by one test
 twice : {A B : Type 0} (P : A → B → Type 0) (b : Bool) (x y : A) (u v : B) → (b ≡ true → P x u) → (b ≡ false → P y v) → P (pick b x y) (pick b u v)
@@ -67,58 +68,58 @@ module _ (r : Row) (cells : List ℕ) (k : Core) where
 
   -- after an effect on a core at rest: what it starts, performed
   effect-coming : (s : ℕ) (wp : Bool) (a x : ℕ) → ((c : ℕ) → hasCommand r c ≡ true → 0 < timeOf r c) → busy k ≡ false
-      → coming r cells (coreAfter r k wp a x (effectOf r s a x)) ≡ perform r (effectStarts r wp a x (effectOf r s a x)) (coming r cells k)
+      → coming r cells (coreAfter r k wp a x (effectOf r s a x)) ≡ completeAll r (effectStarts r wp a x (effectOf r s a x)) (coming r cells k)
   unfolding coming
   effect-coming s wp a x time b =
       effect-is (λ (e : Effect). Comes (coreAfter r k wp a x e) (effectStarts r wp a x e)) r s a x (λ _ _. refl)
       (λ c h. twice Comes (ignored r wp c a) _ _ _ _ (λ _. refl) (λ _. rw (b, lt-ltb 0 (timeOf r c) (time c h)))) (λ _. refl)
     where
       Comes : Core → List Operation → Type 0
-      Comes n os = coming r cells n ≡ perform r os (coming r cells k)
+      Comes n os = coming r cells n ≡ completeAll r os (coming r cells k)
 
 acted-coming : (r : Row) (h : Chip) (wp : Bool) (a : Action) → ((c : ℕ) → hasCommand r c ≡ true → 0 < timeOf r c) → uncutAction a ≡ true
-    → comingTo r (leaves (actedOf r h wp a)) ≡ perform r (actionStarts r (h .device) wp a) (comingTo r h)
+    → comingTo r (leaves (actedOf r h wp a)) ≡ completeAll r (actionStarts r (h .device) wp a) (comingTo r h)
 unfolding writtenOf
 acted-coming r h wp (Read a) time u = read-coming r (h .cells) (h .device .core) a
 acted-coming r h wp (Write a x) time u =
-    twice (λ (d : Device) (os : List Operation). coming r (h .cells) (d .core) ≡ perform r os (comingTo r h)) (busy (h .device .core)) (h .device) _ [] _ (λ _. refl)
+    twice (λ (d : Device) (os : List Operation). coming r (h .cells) (d .core) ≡ completeAll r os (comingTo r h)) (busy (h .device .core)) (h .device) _ [] _ (λ _. refl)
     (λ b. effect-coming r (h .cells) (h .device .core) (h .device .stage) wp a x time b)
 acted-coming r h wp Idle time u = refl
 acted-coming r h wp (Cut s) time u = apart u
 
-perform-append : (r : Row) (os ps : List Operation) (cells : List ℕ) → perform r (os ++ ps) cells ≡ perform r ps (perform r os cells)
-perform-append r [] ps cells = refl
-perform-append r (o ∷ os) ps cells = perform-append r os ps (completeOn r o cells)
+complete-append : (r : Row) (os ps : List Operation) (cells : List ℕ) → completeAll r (os ++ ps) cells ≡ completeAll r ps (completeAll r os cells)
+complete-append r [] ps cells = refl
+complete-append r (o ∷ os) ps cells = complete-append r os ps (completeOn r o cells)
 
 -- one cycle
 cycle-coming : (part : ℕ) (h : Chip) (c : Cycle) → uncutAction (c .action) ≡ true
-    → comingTo (rowOf part) (after part h c) ≡ perform (rowOf part) (startedBy part h c) (comingTo (rowOf part) h)
+    → comingTo (rowOf part) (after part h c) ≡ completeAll (rowOf part) (startedBy part h c) (comingTo (rowOf part) h)
 unfolding after startedBy cycleOf acceptedOf
 cycle-coming part h c u =
-    twice (λ (o : Outcome) (os : List Operation). comingTo r (leaves o) ≡ perform r os (comingTo r h)) (eqb (cycleRefusal part (length (h .cells)) (h .device) (c .action)) 0) _ _ _ _
+    twice (λ (o : Outcome) (os : List Operation). comingTo r (leaves o) ≡ completeAll r os (comingTo r h)) (eqb (cycleRefusal part (length (h .cells)) (h .device) (c .action)) 0) _ _ _ _
     (λ e. acts (accepted part _ _ _ (eqb-true _ _ e))) (λ _. refl)
   where
     r : Row
     r = rowOf part
 
     s : Chip
-    s = passed r h (c .elapsed)
+    s = afterTime r h (c .elapsed)
 
     acts : Accepted part (length (h .cells)) (h .device) (c .action)
-        → comingTo r (leaves (actedOf r s (c .wp) (c .action))) ≡ perform r (actionStarts r (s .device) (c .wp) (c .action)) (comingTo r h)
+        → comingTo r (leaves (actedOf r s (c .wp) (c .action))) ≡ completeAll r (actionStarts r (s .device) (c .wp) (c .action)) (comingTo r h)
     acts w =
         acted-coming r s (c .wp) (c .action) (timely part (w .known)) u
-        ∙ ap (perform r (actionStarts r (s .device) (c .wp) (c .action))) (settled-coming r (h .cells) (h .device .core) (c .elapsed))
+        ∙ ap (completeAll r (actionStarts r (s .device) (c .wp) (c .action))) (settled-coming r (h .cells) (h .device .core) (c .elapsed))
 
 -- a list of cycles
 trace-coming : (part : ℕ) (cs : List Cycle) (h : Chip) → uncut cs ≡ true
-    → comingTo (rowOf part) (play part h cs) ≡ perform (rowOf part) (startedIn part h cs) (comingTo (rowOf part) h)
+    → comingTo (rowOf part) (play part h cs) ≡ completeAll (rowOf part) (startedIn part h cs) (comingTo (rowOf part) h)
 trace-coming part [] h u = refl
 trace-coming part (c ∷ cs) h u =
     let w = both (uncutAction (c .action)) (uncut cs) u in
     trace-coming part cs (after part h c) (w .1)
-    ∙ (ap (perform (rowOf part) (startedIn part (after part h c) cs)) (cycle-coming part h c (w .0))
-    ∙ sym (perform-append (rowOf part) (startedBy part h c) (startedIn part (after part h c) cs) (comingTo (rowOf part) h)))
+    ∙ (ap (completeAll (rowOf part) (startedIn part (after part h c) cs)) (cycle-coming part h c (w .0))
+    ∙ sym (complete-append (rowOf part) (startedBy part h c) (startedIn part (after part h c) cs) (comingTo (rowOf part) h)))
 
 -- idle: nothing to come
 idle-coming : (r : Row) (h : Chip) → idle (h .device) ≡ true → comingTo r h ≡ h .cells
@@ -127,7 +128,7 @@ idle-coming r h i = rw (idle-rests (h .device .core) (idle-is (h .device) i .1))
 
 -- THE TRACE LAW: from an idle device, without a cut, to an idle one
 pub trace : (part : ℕ) (cs : List Cycle) (h : Chip) → uncut cs ≡ true → idle (h .device) ≡ true → idle (play part h cs .device) ≡ true
-    → play part h cs .cells ≡ perform (rowOf part) (startedIn part h cs) (h .cells)
+    → play part h cs .cells ≡ completeAll (rowOf part) (startedIn part h cs) (h .cells)
 trace part cs h u i j =
     sym (idle-coming (rowOf part) (play part h cs) j)
-    ∙ (trace-coming part cs h u ∙ ap (perform (rowOf part) (startedIn part h cs)) (idle-coming (rowOf part) h i))
+    ∙ (trace-coming part cs h u ∙ ap (completeAll (rowOf part) (startedIn part h cs)) (idle-coming (rowOf part) h i))

@@ -10,8 +10,8 @@ use Rattle.parts.specs.Width.{valueOf, fitsIn}
 use Rattle.parts.specs.Table.{rowOf, foundOf}
 use Rattle.parts.specs.declared.table.Row.{Row}
 use Rattle.parts.specs.declared.table.Found.{Found}
-use Rattle.chip.specs.declared.device.Mode.{Mode}
-use Rattle.chip.specs.declared.device.Mode.the-variants.{ReadMode, Identification}
+use Rattle.commands.specs.declared.effect.Mode.{Mode}
+use Rattle.commands.specs.declared.effect.Mode.the-variants.{ReadMode, Identification}
 use Rattle.chip.specs.declared.device.Operation.{Operation}
 use Rattle.chip.specs.declared.device.Core.{Core}
 use Rattle.chip.specs.declared.device.Device.{Device}
@@ -23,6 +23,10 @@ use Rattle.chip.specs.declared.cycle.Shown.{Shown}
 use Rattle.chip.specs.Device.{withLeft, toggled, withRunning, atRest, busy, withCore, freshDevice, deviceInRange}
 use Rattle.chip.specs.Operation.{completeOn, cutOn}
 use Rattle.chip.specs.Sequence.{writtenOf}
+
+-- a cycle: the µs since the last one, the WP# level, and what it does
+abbrev pub cycle : ℕ → Bool → Action → Cycle
+cycle e wp a = record { elapsed = e; wp = wp; action = a }
 
 -- a chip: its cells and its device state
 pub record Chip : Type 0 where
@@ -77,9 +81,9 @@ settledOf r cells k e =
     (settled (completeOn r (k .running) cells) (atRest k)))
     (settled cells k)
 
--- the chip once time has passed
-abbrev pub passed : Row → Chip → ℕ → Chip
-passed r h e =
+-- the chip once time has afterTime
+abbrev pub afterTime : Row → Chip → ℕ → Chip
+afterTime r h e =
     let s = settledOf r (h .cells) (h .device .core) e in
     chip (s .cells) (withCore (h .device) (s .core))
 
@@ -105,13 +109,13 @@ shownOf r cells ReadMode a = valueOf (r .width) (getD cells a 0)
 shownOf r cells Identification a = identity r a
 
 -- the value, and the core afterwards
-abbrev pub shown : ℕ → Core → Shown
-shown v k = record { value = v; core = k }
+abbrev pub showing : ℕ → Core → Shown
+showing v k = record { value = v; core = k }
 
 unfoldable pub readOf : Row → List ℕ → Core → ℕ → Shown
 readOf r cells k a =
-    pick (busy k) (shown (status (k .running)) (withRunning k (toggled (k .running))))
-    (shown (shownOf r cells (k .mode) a) k)
+    pick (busy k) (showing (status (k .running)) (withRunning k (toggled (k .running))))
+    (showing (shownOf r cells (k .mode) a) k)
 
 -- ---- a power cut: the cells that it leaves, an operation being cut short
 unfoldable pub cutOf : Row → List ℕ → Core → ℕ → List ℕ
@@ -128,7 +132,7 @@ actedOf r h wp (Cut s) = outcome (cutOf r (h .cells) (h .device .core) s) 0 fres
 
 -- ---- the cycle
 unfoldable pub acceptedOf : Row → List ℕ → Device → Cycle → Outcome
-acceptedOf r cells d c = actedOf r (passed r (chip cells d) (c .elapsed)) (c .wp) (c .action)
+acceptedOf r cells d c = actedOf r (afterTime r (chip cells d) (c .elapsed)) (c .wp) (c .action)
 
 -- a refused cycle hands back state and cells as they came
 unfoldable pub cycleOf : ℕ → List ℕ → Device → Cycle → Outcome

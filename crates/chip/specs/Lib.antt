@@ -2,5 +2,5 @@ pub mod Device
 pub mod Operation
 pub mod Sequence
 pub mod Cycle
-pub mod Sized
+pub mod Needs
 pub mod Trace

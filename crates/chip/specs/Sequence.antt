@@ -1,76 +1,20 @@
--- The writes in sequence: one table, to be laid beside the data sheets' command tables.
-use Prim.Native.Nat.{ℕ, _%_}
+-- A write to a device: what its effect leaves.
+use Prim.Native.Nat.{ℕ}
 use mathlib.Core.Bool.{Bool, true, false}
-use mathlib.Core.List.{List, [], _∷_}
 use lib.Dec.{eqb, ltb}
-use Rattle.parts.specs.Names.{PROGRAM, SECTOR, BLOCK, CHIP}
+use Rattle.parts.specs.Names.{CHIP, NONE-BEGUN}
 use Rattle.parts.specs.Pick.{pick}
-use Rattle.parts.specs.Span.{hasBlocks, holdsb, protectedOf}
+use Rattle.parts.specs.Span.{holdsb, protectedOf}
 use Rattle.parts.specs.Time.{timeOf}
 use Rattle.parts.specs.declared.table.Row.{Row}
-use Rattle.chip.specs.declared.device.Mode.the-variants.{ReadMode, Identification}
+use Rattle.commands.specs.declared.effect.Mode.the-variants.{ReadMode}
+use Rattle.commands.specs.declared.effect.Effect.{Effect}
+use Rattle.commands.specs.declared.effect.Effect.the-variants.{Goes, Starts, Enters}
+use Rattle.commands.specs.Commands.{effectOf}
 use Rattle.chip.specs.declared.device.Operation.{Operation}
 use Rattle.chip.specs.declared.device.Core.{Core}
 use Rattle.chip.specs.declared.device.Device.{Device}
-use Rattle.chip.specs.declared.sequence.Effect.{Effect}
-use Rattle.chip.specs.declared.sequence.Effect.the-variants.{Goes, Starts, Enters}
 use Rattle.chip.specs.Device.{operation, inMode, busyWith, busy, device}
-
--- what a write has to be: a byte at U1, at U2 or at any address; or anything
-pub data Wanted : Type 0 where
-  AtU1 : ℕ → Wanted
-  AtU2 : ℕ → Wanted
-  At : ℕ → Wanted
-  Anything : Wanted
-
--- a write at a stage that is what it has to be has an effect: the sequence goes on to a stage, an operation starts, or a mode is entered
-pub record Rule : Type 0 where
-  pub stage : ℕ
-  pub wanted : Wanted
-  pub effect : Effect
-
-abbrev pub rule : ℕ → Wanted → Effect → Rule
-rule s w e = record { stage = s; wanted = w; effect = e }
-
--- a write that does not continue the sequence returns to read mode
-abbrev pub broken : Effect
-broken = Enters ReadMode
-
--- the block code starts nothing where the part has no blocks
-abbrev pub blockErase : Row → Effect
-blockErase r = pick (hasBlocks r) (Starts BLOCK) broken
-
--- stages: 0 none begun, 1 AAH, 2 55H, 3 armed by A0H, 4 after 80H, 5 AAH again, 6 55H again
-abbrev pub commands : Row → List Rule
-commands r =
-    rule 0 (AtU1 0xaa) (Goes 1)
-    ∷ rule 1 (AtU2 0x55) (Goes 2)
-    ∷ rule 2 (AtU1 0xa0) (Goes 3)
-    ∷ rule 3 Anything (Starts PROGRAM)
-    ∷ rule 2 (AtU1 0x80) (Goes 4)
-    ∷ rule 4 (AtU1 0xaa) (Goes 5)
-    ∷ rule 5 (AtU2 0x55) (Goes 6)
-    ∷ rule 6 (At (r .«sector_code»)) (Starts SECTOR)
-    ∷ rule 6 (At (r .«block_code»)) (blockErase r)
-    ∷ rule 6 (AtU1 0x10) (Starts CHIP)
-    ∷ rule 2 (AtU1 0x90) (Enters Identification)
-    ∷ rule 2 (AtU1 0xf0) (Enters ReadMode)
-    ∷ []
-
--- unlock addresses are compared on the low bits, command bytes on the low eight data bits
-abbrev pub isWanted : Row → ℕ → ℕ → Wanted → Bool
-isWanted r a x (AtU1 b) = pick (eqb (a % r .compared) (r .u1)) (eqb (x % 256) b) false
-isWanted r a x (AtU2 b) = pick (eqb (a % r .compared) (r .u2)) (eqb (x % 256) b) false
-isWanted r a x (At b) = eqb (x % 256) b
-isWanted r a x Anything = true
-
--- the effect of the first rule that a write meets; a write that meets none is broken
-abbrev pub firstMet : Row → List Rule → ℕ → ℕ → ℕ → Effect
-firstMet r [] s a x = broken
-firstMet r (u ∷ us) s a x = pick (pick (eqb s (u .stage)) (isWanted r a x (u .wanted)) false) (u .effect) (firstMet r us s a x)
-
-unfoldable pub effectOf : Row → ℕ → ℕ → ℕ → Effect
-effectOf r s a x = firstMet r (commands r) s a x
 
 -- WP# low protects from program, sector and block erase at a protected address, and, on a part with the pin, from any chip erase
 unfoldable pub ignored : Row → Bool → ℕ → ℕ → Bool
@@ -92,8 +36,8 @@ coreAfter r k wp a x (Enters m) = inMode k m
 -- the stage after an effect: but for a sequence that goes on, none is begun
 abbrev pub stageAfter : Effect → ℕ
 stageAfter (Goes s) = s
-stageAfter (Starts c) = 0
-stageAfter (Enters m) = 0
+stageAfter (Starts c) = NONE-BEGUN
+stageAfter (Enters m) = NONE-BEGUN
 
 abbrev pub afterEffect : Row → Core → Bool → ℕ → ℕ → Effect → Device
 afterEffect r k wp a x e = device (coreAfter r k wp a x e) (stageAfter e)

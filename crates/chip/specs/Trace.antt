@@ -9,15 +9,16 @@ use Rattle.parts.specs.Table.{rowOf}
 use Rattle.parts.specs.declared.table.Row.{Row}
 use Rattle.chip.specs.declared.device.Operation.{Operation}
 use Rattle.chip.specs.declared.device.Device.{Device}
-use Rattle.chip.specs.declared.sequence.Effect.{Effect}
-use Rattle.chip.specs.declared.sequence.Effect.the-variants.{Goes, Starts, Enters}
+use Rattle.commands.specs.declared.effect.Effect.{Effect}
+use Rattle.commands.specs.declared.effect.Effect.the-variants.{Goes, Starts, Enters}
 use Rattle.chip.specs.declared.cycle.Action.{Action}
 use Rattle.chip.specs.declared.cycle.Action.the-variants.{Read, Write, Idle, Cut}
 use Rattle.chip.specs.declared.cycle.Cycle.{Cycle}
 use Rattle.chip.specs.Device.{busy}
 use Rattle.chip.specs.Operation.{completeOn}
-use Rattle.chip.specs.Sequence.{effectOf, ignored, newOperation}
-use Rattle.chip.specs.Cycle.{Chip, chip, Outcome, cycleRefusal, passed, cycleOf}
+use Rattle.commands.specs.Commands.{effectOf}
+use Rattle.chip.specs.Sequence.{ignored, newOperation}
+use Rattle.chip.specs.Cycle.{Chip, chip, Outcome, cycleRefusal, afterTime, cycleOf}
 
 -- the chip that an outcome leaves
 abbrev pub leaves : Outcome → Chip
@@ -44,11 +45,11 @@ actionStarts r d wp (Write a x) = pick (busy (d .core)) [] (effectStarts r wp a 
 actionStarts r d wp Idle = []
 actionStarts r d wp (Cut s) = []
 
--- the operation that a cycle starts, once its time has passed
+-- the operation that a cycle starts, once its time has afterTime
 unfoldable pub startedBy : ℕ → Chip → Cycle → List Operation
 startedBy part h c =
     pick (eqb (cycleRefusal part (length (h .cells)) (h .device) (c .action)) 0)
-    (actionStarts (rowOf part) (passed (rowOf part) h (c .elapsed) .device) (c .wp) (c .action))
+    (actionStarts (rowOf part) (afterTime (rowOf part) h (c .elapsed) .device) (c .wp) (c .action))
     []
 
 -- the operations that a list of cycles starts, in order
@@ -57,9 +58,9 @@ startedIn part h [] = []
 startedIn part h (c ∷ cs) = startedBy part h c ++ startedIn part (after part h c) cs
 
 -- operations performed in order
-abbrev pub perform : Row → List Operation → List ℕ → List ℕ
-perform r [] cells = cells
-perform r (o ∷ os) cells = perform r os (completeOn r o cells)
+abbrev pub completeAll : Row → List Operation → List ℕ → List ℕ
+completeAll r [] cells = cells
+completeAll r (o ∷ os) cells = completeAll r os (completeOn r o cells)
 
 -- no power is cut
 abbrev pub uncutAction : Action → Bool

@@ -1,12 +1,12 @@
 // One bus cycle: refusals in order; then time passes; then the cycle acts.
 use crate::Core;
 use crate::Device;
-use crate::Mode;
 use crate::Operation;
 use crate::device::fresh;
 use crate::operation::complete;
 use crate::operation::cut_short;
 use crate::sequence::written;
+use commands::Mode;
 use parts::Found;
 use parts::Row;
 use parts::names::BAD_STATE;
@@ -19,7 +19,7 @@ ghost use Prim.Native.Nat.{_<_};
 ghost use lib.ListN.{length};
 ghost use mathlib.Core.Bool.{true};
 ghost use Rattle.chip.specs.Cycle.{actedOf, actionRefusal, bit6, bit7, chip, cutOf, cycleOf, cycleRefusalOn, identity, readOf, settledOf, shownOf, status};
-ghost use Rattle.chip.specs.Sized.{Runs, Sized};
+ghost use Rattle.chip.specs.Needs.{InWords, RunsInside};
 
 // What a cycle does: read an address, write an address with data, nothing, or a power cut with a scar.
 pub enum Action {
@@ -104,8 +104,8 @@ fn cycle_refusal(found: Found, lent: usize, d: Device, action: Action) -> u32
 
 // Time passes.
 fn settle(cells: &mut [u16], row: Row, core: Core, elapsed: u32) -> Core
-    requires { ⌜ Sized row ⌝ }
-    requires { ⌜ Runs row core (length (now cells)) ⌝ }
+    requires { ⌜ InWords row ⌝ }
+    requires { ⌜ RunsInside row core (length (now cells)) ⌝ }
     ensures { λ r. ⌜ (r ≡ settledOf row (now (cells .entry)) core elapsed .core) × (now (cells .exit) ≡ settledOf row (now (cells .entry)) core elapsed .cells) ⌝ }
 {
     let o = core.running;
@@ -149,7 +149,7 @@ fn busy_status(o: Operation) -> u16
 
 // What identification mode shows at an address.
 fn identity_at(row: Row, a: u32) -> u16
-    requires { ⌜ Sized row ⌝ }
+    requires { ⌜ InWords row ⌝ }
     ensures { λ r. ⌜ r ≡ identity row a ⌝ }
 {
     if a == 0 {
@@ -163,7 +163,7 @@ fn identity_at(row: Row, a: u32) -> u16
 
 // What a read at rest shows.
 fn rest_value(cells: &[u16], row: Row, mode: Mode, a: u32) -> u16
-    requires { ⌜ Sized row ⌝ }
+    requires { ⌜ InWords row ⌝ }
     requires { ⌜ a < length (now cells) ⌝ }
     ensures { λ r. ⌜ r ≡ shownOf row (now (cells .entry)) mode a ⌝ }
 {
@@ -175,7 +175,7 @@ fn rest_value(cells: &[u16], row: Row, mode: Mode, a: u32) -> u16
 
 // A read, after its time has passed.
 fn look(cells: &[u16], row: Row, core: Core, a: u32) -> Shown
-    requires { ⌜ Sized row ⌝ }
+    requires { ⌜ InWords row ⌝ }
     requires { ⌜ a < length (now cells) ⌝ }
     ensures { λ r. ⌜ r ≡ readOf row (now (cells .entry)) core a ⌝ }
 {
@@ -195,7 +195,7 @@ fn look(cells: &[u16], row: Row, core: Core, a: u32) -> Shown
 
 // A power cut, after its time has passed.
 fn cut(cells: &mut [u16], row: Row, core: Core, scar: u16)
-    requires { ⌜ Runs row core (length (now cells)) ⌝ }
+    requires { ⌜ RunsInside row core (length (now cells)) ⌝ }
     ensures { λ _. ⌜ now (cells .exit) ≡ cutOf row (now (cells .entry)) core scar ⌝ }
 {
     let o = core.running;
@@ -206,7 +206,7 @@ fn cut(cells: &mut [u16], row: Row, core: Core, scar: u16)
 
 // A read of a device.
 fn read_cycle(cells: &[u16], row: Row, d: Device, a: u32) -> Reply
-    requires { ⌜ Sized row ⌝ }
+    requires { ⌜ InWords row ⌝ }
     requires { ⌜ a < length (now cells) ⌝ }
     ensures { λ r. ⌜ r ≡ actedOf row (chip (now (cells .entry)) d) true (Action.Read a) .reply ⌝ }
 {
@@ -221,8 +221,8 @@ fn read_cycle(cells: &[u16], row: Row, d: Device, a: u32) -> Reply
 
 // The cycle acts.
 fn act(cells: &mut [u16], row: Row, d: Device, wp: bool, action: Action) -> Reply
-    requires { ⌜ Sized row ⌝ }
-    requires { ⌜ Runs row (d .core) (length (now cells)) ⌝ }
+    requires { ⌜ InWords row ⌝ }
+    requires { ⌜ RunsInside row (d .core) (length (now cells)) ⌝ }
     requires { ⌜ (row .cells ≡ length (now cells)) × (actionRefusal row action ≡ 0) ⌝ }
     ensures { λ r. ⌜ (r ≡ actedOf row (chip (now (cells .entry)) d) wp action .reply) × (now (cells .exit) ≡ actedOf row (chip (now (cells .entry)) d) wp action .cells) ⌝ }
 {

@@ -1,12 +1,10 @@
 // The device state: its core, that is its mode and the operation that runs, and the stage of its write sequence.
+use commands::Mode;
 use parts::Row;
+use parts::names::NONE_BEGUN;
+use parts::names::SECOND_55H;
 ghost use mathlib.Core.Path.{_≡_};
-ghost use Rattle.chip.specs.Device.{atRest, busy, busyWith, coreInRange, deviceInRange, freshDevice, inMode, noOperation, reads, stageInRange, toggled, validOperation, withCore, withLeft, withRunning};
-
-pub enum Mode {
-    ReadMode,
-    Identification,
-}
+ghost use Rattle.chip.specs.Device.{atRest, busy, busyWith, coreInRange, deviceInRange, freshDevice, inMode, noOperation, reads, toggled, validOperation, withCore, withLeft, withRunning};
 
 // An operation: its command's number, address and data, the µs left, and what bit 6 shows at the
 // next busy read. It is pending exactly while time is left.
@@ -24,7 +22,7 @@ pub struct Core {
     pub running: Operation,
 }
 
-// Stages: 0 no sequence begun, 1 AAH, 2 55H, 3 armed by A0H, 4 after 80H, 5 AAH again, 6 55H again.
+// The stage is one of the seven of a write sequence (parts::names).
 pub struct Device {
     pub core: Core,
     pub stage: u32,
@@ -88,15 +86,13 @@ impl Operation {
     }
 }
 
-impl Mode {
-    // Whether it is read mode.
-    fn reads(self) -> bool
-        ensures { λ r. ⌜ r ≡ reads self ⌝ }
-    {
-        match self {
-            Mode::ReadMode => true,
-            Mode::Identification => false,
-        }
+// Whether a mode is read mode.
+fn reads_cells(mode: Mode) -> bool
+    ensures { λ r. ⌜ r ≡ reads mode ⌝ }
+{
+    match mode {
+        Mode::ReadMode => true,
+        Mode::Identification => false,
     }
 }
 
@@ -148,21 +144,11 @@ impl Core {
             return true;
         }
         let mode = self.mode;
-        if mode.reads() {
+        if reads_cells(mode) {
             let o = self.running;
             return o.is_valid(row);
         }
         false
-    }
-
-    // Whether a stage is in range beside it.
-    fn allows_stage(self, stage: u32) -> bool
-        ensures { λ r. ⌜ r ≡ stageInRange self stage ⌝ }
-    {
-        if self.is_busy() {
-            return stage == 0;
-        }
-        stage < 7
     }
 }
 
@@ -182,7 +168,14 @@ impl Device {
         ensures { λ r. ⌜ r ≡ deviceInRange row self ⌝ }
     {
         let core = self.core;
-        if core.allows_stage(self.stage) {
+        let stage = self.stage;
+        if core.is_busy() {
+            if stage == NONE_BEGUN {
+                return core.in_range(row);
+            }
+            return false;
+        }
+        if stage <= SECOND_55H {
             return core.in_range(row);
         }
         false
@@ -197,5 +190,8 @@ pub fn fresh() -> Device
         mode: Mode::ReadMode,
         running: no_operation(),
     };
-    Device { core, stage: 0 }
+    Device {
+        core,
+        stage: NONE_BEGUN,
+    }
 }

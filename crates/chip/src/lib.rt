@@ -10,6 +10,5 @@ pub use cycle::Reply;
 pub use cycle::bus_cycle;
 pub use device::Core;
 pub use device::Device;
-pub use device::Mode;
 pub use device::Operation;
 pub use device::fresh;

@@ -12,7 +12,7 @@ ghost use lib.ListN.{length};
 ghost use lib.Bits.{bitOr};
 ghost use Rattle.parts.specs.Width.{valueOf};
 ghost use Rattle.chip.specs.Operation.{cellsOf, completeOn, cutOn};
-ghost use Rattle.chip.specs.Sized.{Sized};
+ghost use Rattle.chip.specs.Needs.{InWords};
 
 // The cells of an operation.
 fn cells_of(row: Row, o: Operation) -> Span
@@ -64,7 +64,7 @@ fn scar_each(cells: &mut [u16], width: u32, scar: u16)
 // The operation completes on the cells.
 pub(crate) fn complete(cells: &mut [u16], row: Row, o: Operation)
     requires { ⌜ cellsOf row o .first + cellsOf row o .count ≤ length (now cells) ⌝ }
-    requires { ⌜ Sized row ⌝ }
+    requires { ⌜ InWords row ⌝ }
     ensures { λ _. ⌜ now (cells .exit) ≡ completeOn row o (now (cells .entry)) ⌝ }
 {
     if o.kind == PROGRAM {

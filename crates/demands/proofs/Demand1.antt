@@ -17,7 +17,7 @@ use Rattle.parts.specs.declared.table.Found.{Found}
 use Rattle.parts.proofs.Every.{split}
 use Rattle.chip.specs.declared.cycle.Action.{Action}
 use Rattle.chip.specs.declared.cycle.Action.the-variants.{Read, Write, Idle, Cut}
-use Rattle.chip.specs.Cycle.{Chip, chip, Outcome, passed, actedOf, acceptedOf, cycleOf}
+use Rattle.chip.specs.Cycle.{Chip, chip, Outcome, afterTime, actedOf, acceptedOf, cycleOf}
 use Rattle.driver.specs.declared.machine.Started.{Started}
 use Rattle.driver.specs.declared.writes.Writes.{Writes}
 use Rattle.driver.specs.declared.writes.Kth.{Kth}
@@ -26,14 +26,14 @@ use Rattle.driver.specs.declared.machine.Step.{Step}
 use Rattle.driver.specs.declared.machine.Phase.{Phase}
 use Rattle.driver.specs.declared.machine.Phase.the-variants.{Writing, Polling, Confirming, Done, GaveUp, Differs}
 use Rattle.driver.specs.declared.machine.Next.the-variants.{Nothing}
-use Rattle.driver.specs.declared.writes.Write.{Write as Written}
-use Rattle.driver.specs.Refusals.{commandRefusal}
-use Rattle.driver.specs.Writes.{noWrite, writeCount, nthWrite, commandWrites, kth, kthWrite}
-use Rattle.driver.specs.Machine.{valueWanted, startOf, mostPolls, inRange, step, ended, writingOf, polls, matches, pollingOf, confirmingOf, phaseOf, stepOf}
+use Rattle.driver.specs.Refusals.{startRefusal}
+use Rattle.driver.specs.Writes.{noWrite, commandWrites, kth, kthRefusal, kthWrite}
+use Rattle.driver.specs.Machine.{valueWanted, noDriver, startOf, startWriting, mostPolls, inRange, step, ended, writingOf, polls, matches, pollingOf, confirmingOf, phaseOf, stepOf}
+use Rattle.driver.proofs.Begins.{start-range}
 use Rattle.job.specs.Bill.{Loaded, Reported, loadOf, reportOf}
 use Rattle.jobfile.specs.declared.trailer.JobFile.{JobFile}
 use Rattle.jobfile.specs.JobFile.{malformed, trailerOf, refused, asked, jobOf}
-use Rattle.demands.specs.Calls.{BusCall, onBus, busRefusal, kthRefusal, StepCall, toStep, refusedStart, toStart, refusedWrites, toWrite, kthAsked, refusedJob, toLoad, toLoadFirst, rowAsked, figureAsked, toRead}
+use Rattle.demands.specs.Calls.{BusCall, onBus, busRefusal, StepCall, toStep, refusedStart, toStart, refusedWrites, toWrite, kthAsked, refusedJob, toLoad, toLoadFirst, rowAsked, figureAsked, toRead}
 use Rattle.demands.specs.Demand1.{Refuses, RefusesState, Demand1}
 
 -- one test decides: what is handed back where it passes answers 0
@@ -51,6 +51,20 @@ acted-answers r h wp (Read a) = refl
 acted-answers r h wp (Write a x) = refl
 acted-answers r h wp Idle = refl
 acted-answers r h wp (Cut c) = refl
+
+-- ---- a start that names its first write
+starts-refuse : (part command address x p : ℕ)
+    → Refuses Step (startWriting part command address x p .answer) (startRefusal part command address x p) (startWriting part command address x p)
+    (step (startRefusal part command address x p) noDriver Nothing 0)
+unfolding startWriting startOf stepOf writingOf
+starts-refuse part command address x p = by (eqb n 0) refl
+  where
+    n : ℕ
+    n = startRefusal part command address x p
+
+    by : (t : Bool) → eqb n 0 ≡ t → Refuses Step (startWriting part command address x p .answer) n (startWriting part command address x p) (step n noDriver Nothing 0)
+    by true t = let z = eqb-true n 0 t in record { exactly = simp (t, start-range part command address x p z) (sym z); beside = λ e. absurd (e z) }
+    by false t = record { exactly = simp t; beside = λ e. simp t }
 
 -- ---- what a driver's step answers in each phase
 phases-answer : (r : Row) (f : Phase) (d : Driver) (read : ℕ) → phaseOf r f d read .answer ≡ 5 → ⊥
@@ -80,20 +94,7 @@ step-refuses c = record { only = λ e. by (inRange d) refl (rw (c .promise) at e
 kth-refuses : (part command address x k : ℕ)
     → Refuses Kth (kthWrite part command address x k .answer) (kthRefusal part command address x k) (kthWrite part command address x k) (kth (kthRefusal part command address x k) noWrite)
 unfolding kthWrite
-kth-refuses part command address x k = by (eqb (commandRefusal part command address x) 0) (ltb k (writeCount command))
-  where
-    n : ℕ
-    n = commandRefusal part command address x
-
-    w : Written
-    w = nthWrite (rowOf part) command address x k
-
-    by : (t u : Bool)
-        → Refuses Kth (pick t (pick u (kth 0 w) (kth 15 noWrite)) (kth n noWrite) .answer) (pick t (pick u 0 15) n)
-        (pick t (pick u (kth 0 w) (kth 15 noWrite)) (kth n noWrite)) (kth (pick t (pick u 0 15) n) noWrite)
-    by true true = record { exactly = refl; beside = λ e. absurd (e refl) }
-    by true false = record { exactly = refl; beside = λ e. refl }
-    by false u = record { exactly = refl; beside = λ e. refl }
+kth-refuses part command address x k = by-test (λ (t : Kth). t .answer) (kthRefusal part command address x k) _ _ refl refl
 
 figures-refuse : (part column : ℕ) → Refuses Figure (figureOf part column .answer) (figureRefusal part column) (figureOf part column) (figure (figureRefusal part column) 0)
 unfolding figureOf
@@ -127,8 +128,9 @@ demand-1 =
     record {
       bus-cycle-refuses = λ c. let g = onBus c in
           rw (c .promise .0, c .promise .1)
-          (by-test (λ (o : Outcome). o .reply .answer) (busRefusal g) _ _ (acted-answers _ (passed _ (chip (g .cells) (g .device)) (g .cycle .elapsed)) (g .cycle .wp) (g .cycle .action)) refl);
-      start-refuses = λ c. rw (c .promise) (by-test (λ (t : Started). t .answer) (refusedStart (toStart c)) _ _ refl refl);
+          (by-test (λ (o : Outcome). o .reply .answer) (busRefusal g) _ _ (acted-answers _ (afterTime _ (chip (g .cells) (g .device)) (g .cycle .elapsed)) (g .cycle .wp) (g .cycle .action)) refl);
+      start-refuses = λ c. rw (c .promise) (by-test (λ (t : Started). t .answer) (refusedStart (toStart (c .given))) _ _ refl refl);
+      start-writing-refuses = λ c. let g = toStart (c .given) in rw (c .promise) (starts-refuse (g .part) (g .command) (g .address) (g .word) (g .p));
       step-refuses = step-refuses;
       writes-refuses = λ c. rw (c .promise) (by-test (λ (t : Writes). t .answer) (refusedWrites (toWrite c)) _ _ refl refl);
       kth-write-refuses = λ c. let g = kthAsked (c .given) in rw (c .promise) (kth-refuses (g .part) (g .command) (g .address) (g .word) (g .k));

@@ -19,8 +19,9 @@ use Rattle.chip.specs.declared.device.Device.{Device}
 use Rattle.chip.specs.declared.device.Operation.{Operation}
 use Rattle.chip.specs.declared.cycle.Action.the-variants.{Read}
 use Rattle.chip.specs.declared.cycle.Cycle.{Cycle}
-use Rattle.chip.specs.Cycle.{Chip, chip, acceptedOf, cycleOf}
+use Rattle.chip.specs.Cycle.{cycle, Chip, chip, acceptedOf, cycleOf}
 use Rattle.chip.specs.Trace.{play, startedIn}
+use Rattle.chip.proofs.Started.{started-append, reads-start, one-read-starts}
 use Rattle.driver.specs.declared.machine.Driver.{Driver}
 use Rattle.driver.specs.declared.machine.Step.{Step}
 use Rattle.driver.specs.declared.machine.Phase.{Phase}
@@ -28,13 +29,12 @@ use Rattle.driver.specs.declared.machine.Phase.the-variants.{Writing, Polling, 
 use Rattle.driver.specs.declared.machine.Next.the-variants.{Nothing}
 use Rattle.driver.specs.Refusals.{commandRefusal, startRefusal}
 use Rattle.driver.specs.Writes.{write, unlock, lastWrite, writeCount, writesOf, sixPlaces, commandWrites}
-use Rattle.driver.specs.Machine.{addressOf, bitSeven, bitWanted, startOf, mostPolls, countFits, inRange, step, matches, pollingOf, confirmingOf, phaseOf, stepOf}
-use Rattle.driver.specs.Talk.{cycle, writeCycles, shownAfter, Told, talk}
+use Rattle.driver.specs.Machine.{addressOf, confirmAfter, bitSeven, bitWanted, startOf, mostPolls, countFits, inRange, step, matches, pollingOf, confirmingOf, phaseOf, stepOf}
+use Rattle.driver.specs.Talk.{writeCycles, shownAfter, Told, talk}
 use Rattle.driver.proofs.Asked.{asking, begun}
 use Rattle.driver.proofs.Theorems as Theorems
-use Rattle.invoice.proofs.Starts.{started-append, reads-start, one-read-starts}
 use Rattle.demands.specs.Calls.{onBus, busRefusal, toWrite, ToStart, toStart, refusedStart, StepCall, toStep}
-use Rattle.demands.specs.Demand2.{IdleUnprotected, operationAsked, polls, readAfter, noRead, Demand2}
+use Rattle.demands.specs.Demand2.{IdleUnprotected, operationAsked, polls, noRead, Demand2}
 
 -- ---- a command's writes together
 -- the first count of six places are the writes
@@ -95,10 +95,10 @@ starts g accepted cells d wp i read n enough = by (eqb (bitSeven shown) (bitWant
     by : (t : Bool) → eqb (bitSeven shown) (bitWanted command word) ≡ t
         → startedIn part (chip cells d) (talk part wp n (stepOf (startOf part command address word (g .p) .driver) read) (chip cells d) .cycles) ≡ operationAsked g ∷ []
     by true t =
-        begins-once part command address word wp cells d _ (readAfter g wp 0 ∷ []) (polls g) (g .p) (addressOf command address) (operationAsked g)
+        begins-once part command address word wp cells d _ (cycle confirmAfter wp (Read (addressOf command address)) ∷ []) (polls g) (g .p) (addressOf command address) (operationAsked g)
         (ap (λ (t : Told). t .cycles)
         (Theorems.performs part command address word (g .p) wp cells d accepted (i .whole) (i .rests) (i .heeded) (eqb-true _ _ t) n read (omega arith)))
-        one (one-read-starts part 0 wp (addressOf command address))
+        one (one-read-starts part confirmAfter wp (addressOf command address))
     by false t =
         begins-once part command address word wp cells d _ [] (polls g * 2) (g .p) (addressOf command address) (operationAsked g)
         (ap (λ (t : Told). t .cycles)
@@ -175,11 +175,11 @@ demand-2 =
       writes-start = λ c accepted cells d wp i. let g = toWrite c in
           rw (c .promise, places-are (g .part) (g .command) (g .address) (g .word) accepted)
           (Theorems.writes-start (g .part) (g .command) (g .address) (g .word) wp cells d accepted (i .whole) (i .rests) (i .heeded) .1);
-      driver-starts = λ c accepted cells d wp i read n enough. rw (c .promise) (starts (toStart c) accepted cells d wp i read n enough);
-      driver-succeeds = λ c accepted cells d wp i same read n enough. let g = toStart c in
+      driver-starts = λ c accepted cells d wp i read n enough. rw (c .promise) (starts (toStart (c .given)) accepted cells d wp i read n enough);
+      driver-succeeds = λ c accepted cells d wp i same read n enough. let g = toStart (c .given) in
           rw (c .promise)
           (Theorems.succeeds (g .part) (g .command) (g .address) (g .word) (g .p) wp cells d accepted (i .whole) (i .rests) (i .heeded) same n read enough);
-      driver-ends = λ c accepted wp f read n enough. let g = toStart c in
+      driver-ends = λ c accepted wp f read n enough. let g = toStart (c .given) in
           rw (c .promise) (Theorems.always-ends (g .part) (g .command) (g .address) (g .word) (g .p) accepted wp f read n enough);
       value-ignored = λ c e same none. let d = toStep c .driver in let u = toStep c .read in let v = toStep e .read in
           same-step c e same (in-range d u v (λ _. ignores d u v (d .phase) none));

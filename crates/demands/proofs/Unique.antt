@@ -1,5 +1,6 @@
 -- Every promise determines its outcome. What is proved stands in specs/Unique.antt; each is proved in the crate that exports the function.
 use Rattle.parts.proofs.Determined as parts
+use Rattle.commands.proofs.Determined as commands
 use Rattle.chip.proofs.Determined as chip
 use Rattle.driver.proofs.Determined as driver
 use Rattle.job.proofs.Determined as job
@@ -18,14 +19,17 @@ unique =
       span-holds = parts.holds-unique;
       sector-size = parts.sector-size-unique;
       sector-of = parts.sector-of-unique;
+      has-blocks = parts.has-blocks-unique;
       block-of = parts.block-of-unique;
       protected-range = parts.protected-range-unique;
       time = parts.time-unique;
       has-command = parts.has-command-unique;
       rounded-up = parts.rounded-up-unique;
+      effect-of = commands.effect-of-unique;
       fresh = chip.fresh-unique;
       bus-cycle = chip.bus-cycle-unique;
       start = driver.start-unique;
+      start-writing = driver.start-writing-unique;
       step = driver.step-unique;
       command-writes = driver.command-writes-unique;
       kth-write = driver.kth-write-unique;

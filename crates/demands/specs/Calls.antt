@@ -8,8 +8,6 @@ use lib.ListN.{length}
 use contract.Lifetimes.{Lfts}
 use borrow.Fn.Kinds.{PK, RK, Out, Dens, endedOf, resT}
 use denote.Triple.Clauses.{AtExit}
-use lib.Dec.{eqb, ltb}
-use Rattle.parts.specs.Pick.{pick}
 use Rattle.parts.specs.Figures.{figureRefusal}
 use Rattle.parts.proofs.part_row.Kinds as row-kinds
 use Rattle.parts.proofs.part_row.Reads as row-reads
@@ -22,9 +20,11 @@ use Rattle.chip.proofs.bus_cycle.Kinds as bus-kinds
 use Rattle.chip.proofs.bus_cycle.Reads as bus-reads
 use Rattle.driver.specs.declared.machine.Driver.{Driver}
 use Rattle.driver.specs.Refusals.{commandRefusal, startRefusal}
-use Rattle.driver.specs.Writes.{writeCount}
+use Rattle.driver.specs.Writes.{kthRefusal}
 use Rattle.driver.proofs.start.Kinds as start-kinds
 use Rattle.driver.proofs.start.Reads as start-reads
+use Rattle.driver.proofs.start_writing.Kinds as start-writing-kinds
+use Rattle.driver.proofs.start_writing.Reads as start-writing-reads
 use Rattle.driver.proofs.machine.Driver.step.Kinds as step-kinds
 use Rattle.driver.proofs.machine.Driver.step.Reads as step-reads
 use Rattle.driver.proofs.command_writes.Kinds as writes-kinds
@@ -81,9 +81,12 @@ busLeft c = record { cells = c .ends .1 .0 .now; reply = c .back }
 abbrev pub busRefusal : OnBus → ℕ
 busRefusal g = cycleRefusal (g .part) (length (g .cells)) (g .device) (g .cycle .action)
 
--- ---- start(part, command, address, data, p)
+-- ---- start(part, command, address, data, p); and start_writing of the same, which names the first write at once
 abbrev pub StartCall : Type 0
 StartCall = Call 0 start-kinds.ps start-kinds.r start-reads.Post
+
+abbrev pub StartWritingCall : Type 0
+StartWritingCall = Call 0 start-writing-kinds.ps start-writing-kinds.r start-writing-reads.Post
 
 pub record ToStart : Type 0 where
   pub part : ℕ
@@ -92,10 +95,8 @@ pub record ToStart : Type 0 where
   pub word : ℕ
   pub p : ℕ
 
-abbrev pub toStart : StartCall → ToStart
-toStart c =
-    let a = c .given in
-    record { part = a .0; command = a .1 .0; address = a .1 .1 .0; word = a .1 .1 .1 .0; p = a .1 .1 .1 .1 .0 }
+abbrev pub toStart : {A : Type 0} → ℕ × (ℕ × (ℕ × (ℕ × (ℕ × A)))) → ToStart
+toStart a = record { part = a .0; command = a .1 .0; address = a .1 .1 .0; word = a .1 .1 .1 .0; p = a .1 .1 .1 .1 .0 }
 
 -- its refusal: 1, 10, 14, 3, 4
 abbrev pub refusedStart : ToStart → ℕ
@@ -153,10 +154,6 @@ abbrev pub kthAsked : {A : Type 0} → ℕ × (ℕ × (ℕ × (ℕ × (ℕ × A)
 kthAsked a = record { part = a .0; command = a .1 .0; address = a .1 .1 .0; word = a .1 .1 .1 .0; k = a .1 .1 .1 .1 .0 }
 
 -- its refusal: 1, 14, 3, 4, 15
-abbrev pub kthRefusal : ℕ → ℕ → ℕ → ℕ → ℕ → ℕ
-kthRefusal part command address x k =
-    pick (eqb (commandRefusal part command address x) 0) (pick (ltb k (writeCount command)) 0 15) (commandRefusal part command address x)
-
 abbrev pub refusedKth : KthAsked → ℕ
 refusedKth g = kthRefusal (g .part) (g .command) (g .address) (g .word) (g .k)
 

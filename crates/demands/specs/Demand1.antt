@@ -16,16 +16,15 @@ use Rattle.chip.specs.Cycle.{Outcome, reply}
 use Rattle.driver.specs.declared.machine.Started.{Started}
 use Rattle.driver.specs.declared.machine.Driver.{Driver}
 use Rattle.driver.specs.declared.machine.Step.{Step}
-use Rattle.driver.specs.declared.machine.Phase.the-variants.{Writing}
 use Rattle.driver.specs.declared.machine.Next.the-variants.{Nothing}
 use Rattle.driver.specs.declared.writes.Writes.{Writes}
 use Rattle.driver.specs.declared.writes.Kth.{Kth}
 use Rattle.driver.specs.Writes.{noWrite, writes, kth}
-use Rattle.driver.specs.Machine.{driver, inRange, step}
+use Rattle.driver.specs.Machine.{noDriver, inRange, step}
 use Rattle.job.specs.Bill.{Loaded, Reported, refusedBill, refusedReport}
 use Rattle.jobfile.specs.declared.trailer.JobFile.{JobFile}
 use Rattle.jobfile.specs.JobFile.{malformed, refused}
-use Rattle.demands.specs.Calls.{BusCall, onBus, busLeft, busRefusal, StartCall, toStart, refusedStart, StepCall, toStep, WritesCall, toWrite, refusedWrites, KthCall, StationAddressCall, StationDataCall, StationWriteCall, kthAsked, refusedKth, LoadCall, LoadFirstCall, toLoad, toLoadFirst, loadLeft, loadFirstLeft, refusedJob, RowCall, rowAsked, FigureCall, StationFigureCall, StationFigureAnswerCall, figureAsked, refusedFigure, FileCall, toRead}
+use Rattle.demands.specs.Calls.{BusCall, onBus, busLeft, busRefusal, StartCall, StartWritingCall, toStart, refusedStart, StepCall, toStep, WritesCall, toWrite, refusedWrites, KthCall, StationAddressCall, StationDataCall, StationWriteCall, kthAsked, refusedKth, LoadCall, LoadFirstCall, toLoad, toLoadFirst, loadLeft, loadFirstLeft, refusedJob, RowCall, rowAsked, FigureCall, StationFigureCall, StationFigureAnswerCall, figureAsked, refusedFigure, FileCall, toRead}
 
 -- a call answers n, and where n is a refusal hands back what it should
 pub record Refuses (A : Type 0) (answer n : ℕ) (back should : A) : Type 0 where
@@ -42,8 +41,11 @@ pub record Demand1 : Type 0 where
   pub bus-cycle-refuses : (c : BusCall) → let g = onBus c in let n = busRefusal g in
       Refuses Outcome (c .back .answer) n (busLeft c) (record { cells = g .cells; reply = reply n 0 (g .device) })
   -- A refused start answers its number and hands back an all-zero state.
-  pub start-refuses : (c : StartCall) → let n = refusedStart (toStart c) in
-      Refuses Started (c .back .answer) n (c .back) (record { answer = n; driver = driver 0 0 0 0 0 Writing 0 })
+  pub start-refuses : (c : StartCall) → let n = refusedStart (toStart (c .given)) in
+      Refuses Started (c .back .answer) n (c .back) (record { answer = n; driver = noDriver })
+  -- So does one that names the first write at once, and it names nothing.
+  pub start-writing-refuses : (c : StartWritingCall) → let n = refusedStart (toStart (c .given)) in
+      Refuses Step (c .back .answer) n (c .back) (step n noDriver Nothing 0)
   -- A step refuses with 5 only.
   pub step-refuses : (c : StepCall) → RefusesState (toStep c .driver) (c .back)
   -- A refused command's writes: its number, no write, and six places of zeros.

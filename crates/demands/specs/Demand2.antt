@@ -5,26 +5,24 @@
 use Prim.Native.Nat.{ℕ, _+_, _*_, _≤_}
 use mathlib.Core.Path.{_≡_}
 use mathlib.Core.Bool.{Bool, true, false}
-use mathlib.Core.List.{List, [], _∷_, _++_}
+use mathlib.Core.List.{List, [], _∷_}
 use lib.Dec.{eqb}
-use lib.ListN.{length, take, replicate}
+use lib.ListN.{length, take}
 use Rattle.parts.specs.Width.{valueOf}
 use Rattle.parts.specs.Table.{rowOf}
 use Rattle.parts.specs.Time.{pollsOf}
 use Rattle.parts.specs.declared.table.Row.{Row}
 use Rattle.chip.specs.declared.device.Device.{Device}
 use Rattle.chip.specs.declared.device.Operation.{Operation}
-use Rattle.chip.specs.declared.cycle.Action.the-variants.{Read}
-use Rattle.chip.specs.declared.cycle.Cycle.{Cycle}
 use Rattle.chip.specs.Device.{busyWith, device, freshDevice, idle}
 use Rattle.chip.specs.Sequence.{ignored}
-use Rattle.chip.specs.Cycle.{chip, passed, actedOf}
+use Rattle.chip.specs.Cycle.{chip, afterTime, actedOf}
 use Rattle.chip.specs.Trace.{play, startedIn}
 use Rattle.driver.specs.declared.machine.Phase.{Phase}
 use Rattle.driver.specs.declared.machine.Phase.the-variants.{Writing, Polling, Confirming, Done, GaveUp, Differs}
-use Rattle.driver.specs.Writes.{writeCount, writesOf}
-use Rattle.driver.specs.Machine.{addressOf, valueWanted, begun, moved, ended, stepOf}
-use Rattle.driver.specs.Talk.{cycle, writeCycles, operationOf, completed, shownAfter, Told, told, talk, heard}
+use Rattle.driver.specs.Writes.{writeCount}
+use Rattle.driver.specs.Machine.{valueWanted, begun, moved, ended, stepOf}
+use Rattle.driver.specs.Talk.{writeCycles, operationCycles, operationOf, completed, shownAfter, Told, told, talk, heard}
 use Rattle.driver.proofs.Theorems.{Ended}
 use Rattle.demands.specs.Calls.{BusCall, onBus, busLeft, busRefusal, WritesCall, toWrite, refusedWrites, StartCall, ToStart, toStart, refusedStart, StepCall, toStep}
 
@@ -43,17 +41,12 @@ operationAsked g = operationOf (rowOf (g .part)) (g .command) (g .address) (g .w
 abbrev pub polls : ToStart → ℕ
 polls g = pollsOf (rowOf (g .part)) (g .command) (g .p)
 
--- a read of the polled address after e µs
-abbrev pub readAfter : ToStart → Bool → ℕ → Cycle
-readAfter g wp e = cycle e wp (Read (addressOf (g .command) (g .address)))
-
 -- where it succeeds: the writes, N polls and one confirming read are sent; the operation has completed on the cells, the
 -- device is fresh; the end is 0 with N polls
 abbrev pub success : ToStart → Bool → List ℕ → Told
 success g wp cells =
     told
-    (writeCycles wp (writesOf (rowOf (g .part)) (g .command) (g .address) (g .word))
-    ++ (replicate (polls g) (readAfter g wp (g .p)) ++ (readAfter g wp 0 ∷ [])))
+    (operationCycles (rowOf (g .part)) wp (g .command) (g .address) (g .word) (g .p) (polls g) Done)
     (chip (completed (rowOf (g .part)) (g .command) (g .address) (g .word) cells) freshDevice)
     (ended (moved (begun (g .part) (g .command) (g .address) (g .word) (g .p)) Polling (polls g)) Done)
 
@@ -67,11 +60,11 @@ noRead GaveUp n = true
 noRead Differs n = true
 
 pub record Demand2 : Type 0 where
-  -- Of a bus cycle that is not refused, first time passes (`passed`), then the cycle acts (`actedOf`): that gives the
+  -- Of a bus cycle that is not refused, first time passes (`afterTime`), then the cycle acts (`actedOf`): that gives the
   -- value, the state and the cells.
   pub cycle-acts : (c : BusCall) → let g = onBus c in busRefusal g ≡ 0
       → let r = rowOf (g .part) in
-      busLeft c ≡ actedOf r (passed r (chip (g .cells) (g .device)) (g .cycle .elapsed)) (g .cycle .wp) (g .cycle .action)
+      busLeft c ≡ actedOf r (afterTime r (chip (g .cells) (g .device)) (g .cycle .elapsed)) (g .cycle .wp) (g .cycle .action)
   -- A command's writes, sent at 0 µs, leave the cells as they were and the device running the operation asked for, with its
   -- whole table time left.
   pub writes-run : (c : WritesCall) → let g = toWrite c in refusedWrites g ≡ 0
@@ -85,14 +78,14 @@ pub record Demand2 : Type 0 where
       ≡ operationOf (rowOf (g .part)) (g .command) (g .address) (g .word) ∷ []
   -- The cycles that a started driver names, each sent to the chip and its reply given to the next step (`talk`), start the
   -- operation asked for and no other, whatever the cells hold.
-  pub driver-starts : (c : StartCall) → let g = toStart c in refusedStart g ≡ 0
+  pub driver-starts : (c : StartCall) → let g = toStart (c .given) in refusedStart g ≡ 0
       → (cells : List ℕ) (d : Device) (wp : Bool) → IdleUnprotected (g .part) (g .command) (g .address) cells d wp
       → (read n : ℕ) → writeCount (g .command) + polls g * 2 + 1 ≤ n
       → startedIn (g .part) (chip cells d) (talk (g .part) wp n (stepOf (c .back .driver) read) (chip cells d) .cycles)
       ≡ operationAsked g ∷ []
   -- There, where the cell shows the wanted value once the operation has completed (after every erase, and after a program
   -- that has no bit to raise), it succeeds.
-  pub driver-succeeds : (c : StartCall) → let g = toStart c in refusedStart g ≡ 0
+  pub driver-succeeds : (c : StartCall) → let g = toStart (c .given) in refusedStart g ≡ 0
       → (cells : List ℕ) (d : Device) (wp : Bool) → IdleUnprotected (g .part) (g .command) (g .address) cells d wp
       → shownAfter (rowOf (g .part)) (g .command) (g .address) (g .word) cells
       ≡ valueWanted (rowOf (g .part)) (g .command) (g .word)
@@ -100,9 +93,9 @@ pub record Demand2 : Type 0 where
       → talk (g .part) wp n (stepOf (c .back .driver) read) (chip cells d) ≡ success g wp cells
   -- Whatever is replied (f), a dead chip's constant among it, a started driver has ended after 6 + 2N + 1 cycles, 4 + 2N +
   -- 1 for a program: `Ended` says how.
-  pub driver-ends : (c : StartCall) → let g = toStart c in refusedStart g ≡ 0
+  pub driver-ends : (c : StartCall) → let g = toStart (c .given) in refusedStart g ≡ 0
       → (wp : Bool) (f : ℕ → ℕ) (read n : ℕ) → writeCount (g .command) + polls g * 2 + 1 ≤ n
-      → Ended (g .part) (g .command) (g .p) (heard wp f n (stepOf (c .back .driver) read))
+      → Ended (g .part) (g .command) (g .address) (g .word) (g .p) wp (heard wp f n (stepOf (c .back .driver) read))
   -- Given any two values where the last cycle named was no read, or after the end, two steps of one state are the same.
   pub value-ignored : (c e : StepCall) → let g = toStep c in let h = toStep e in
       g .driver ≡ h .driver → noRead (g .driver .phase) (g .driver .count) ≡ true → c .back ≡ e .back

@@ -11,12 +11,11 @@ use Rattle.chip.specs.declared.cycle.Action.the-variants.{Read, Write, Idle, Cu
 use Rattle.chip.specs.declared.cycle.Cycle.{Cycle}
 use Rattle.chip.specs.declared.cycle.Reply.{Reply}
 use Rattle.chip.specs.Device.{freshDevice, busy}
-use Rattle.chip.specs.Cycle.{Chip, chip, Outcome, cycleOf}
+use Rattle.chip.specs.Cycle.{cycle, Chip, chip, Outcome, cycleOf}
 use Rattle.chip.specs.Trace.{leaves}
-use Rattle.driver.specs.Talk.{cycle}
+use Rattle.driver.specs.Reads.{isRead}
 use Rattle.job.specs.declared.bill.Bill.{Bill}
 use Rattle.job.specs.Bill.{Loaded, loadOf}
-use Rattle.invoice.specs.Started.{isRead}
 
 -- ---- a case of bus cycles
 -- a cell by its address, and what it holds

@@ -23,6 +23,8 @@ use Rattle.parts.proofs.table.Row.sector_size.Kinds as sector-size-kinds
 use Rattle.parts.proofs.table.Row.sector_size.Reads as sector-size-reads
 use Rattle.parts.proofs.table.Row.sector_of.Kinds as sector-of-kinds
 use Rattle.parts.proofs.table.Row.sector_of.Reads as sector-of-reads
+use Rattle.parts.proofs.table.Row.has_blocks.Kinds as has-blocks-kinds
+use Rattle.parts.proofs.table.Row.has_blocks.Reads as has-blocks-reads
 use Rattle.parts.proofs.table.Row.block_of.Kinds as block-of-kinds
 use Rattle.parts.proofs.table.Row.block_of.Reads as block-of-reads
 use Rattle.parts.proofs.table.Row.protected_range.Kinds as protected-range-kinds
@@ -33,12 +35,16 @@ use Rattle.parts.proofs.table.Row.has_command.Kinds as has-command-kinds
 use Rattle.parts.proofs.table.Row.has_command.Reads as has-command-reads
 use Rattle.parts.proofs.rounded_up.Kinds as rounded-up-kinds
 use Rattle.parts.proofs.rounded_up.Reads as rounded-up-reads
+use Rattle.commands.proofs.effect_of.Kinds as effect-of-kinds
+use Rattle.commands.proofs.effect_of.Reads as effect-of-reads
 use Rattle.chip.proofs.fresh.Kinds as fresh-kinds
 use Rattle.chip.proofs.fresh.Reads as fresh-reads
 use Rattle.chip.proofs.bus_cycle.Kinds as bus-cycle-kinds
 use Rattle.chip.proofs.bus_cycle.Reads as bus-cycle-reads
 use Rattle.driver.proofs.start.Kinds as start-kinds
 use Rattle.driver.proofs.start.Reads as start-reads
+use Rattle.driver.proofs.start_writing.Kinds as start-writing-kinds
+use Rattle.driver.proofs.start_writing.Reads as start-writing-reads
 use Rattle.driver.proofs.machine.Driver.step.Kinds as step-kinds
 use Rattle.driver.proofs.machine.Driver.step.Reads as step-reads
 use Rattle.driver.proofs.command_writes.Kinds as command-writes-kinds
@@ -87,16 +93,20 @@ pub record Unique : Type 0 where
   pub span-holds : OneResult 0 span-holds-kinds.ps span-holds-kinds.r span-holds-reads.Post
   pub sector-size : OneResult 0 sector-size-kinds.ps sector-size-kinds.r sector-size-reads.Post
   pub sector-of : OneResult 0 sector-of-kinds.ps sector-of-kinds.r sector-of-reads.Post
+  pub has-blocks : OneResult 0 has-blocks-kinds.ps has-blocks-kinds.r has-blocks-reads.Post
   pub block-of : OneResult 0 block-of-kinds.ps block-of-kinds.r block-of-reads.Post
   pub protected-range : OneResult 0 protected-range-kinds.ps protected-range-kinds.r protected-range-reads.Post
   pub time : OneResult 0 time-kinds.ps time-kinds.r time-reads.Post
   pub has-command : OneResult 0 has-command-kinds.ps has-command-kinds.r has-command-reads.Post
   pub rounded-up : OneResult 0 rounded-up-kinds.ps rounded-up-kinds.r rounded-up-reads.Post
+  -- the table of commands
+  pub effect-of : OneResult 0 effect-of-kinds.ps effect-of-kinds.r effect-of-reads.Post
   -- the chip
   pub fresh : OneResult 0 fresh-kinds.ps fresh-kinds.r fresh-reads.Post
   pub bus-cycle : OneOutcome 1 bus-cycle-kinds.ps bus-cycle-kinds.r bus-cycle-reads.Post (λ κs s. s .1 .0 .now)
   -- the driver
   pub start : OneResult 0 start-kinds.ps start-kinds.r start-reads.Post
+  pub start-writing : OneResult 0 start-writing-kinds.ps start-writing-kinds.r start-writing-reads.Post
   pub step : OneResult 0 step-kinds.ps step-kinds.r step-reads.Post
   pub command-writes : OneResult 0 command-writes-kinds.ps command-writes-kinds.r command-writes-reads.Post
   pub kth-write : OneResult 0 kth-write-kinds.ps kth-write-kinds.r kth-write-reads.Post

@@ -20,17 +20,18 @@ use Rattle.parts.proofs.Values.{lt-fits}
 use Rattle.parts.proofs.Sound.{width-least, codes-differ, sector-not-chip, block-not-chip, sector-byte, block-byte, u1-compared, u2-compared, compared-cells}
 use Rattle.chip.specs.declared.device.Operation.{Operation}
 use Rattle.chip.specs.declared.device.Core.{Core}
-use Rattle.chip.specs.declared.sequence.Effect.the-variants.{Goes, Starts}
+use Rattle.commands.specs.declared.effect.Effect.the-variants.{Goes, Starts}
 use Rattle.chip.specs.declared.cycle.Action.the-variants.{Write as Writes}
 use Rattle.chip.specs.declared.cycle.Cycle.{Cycle}
 use Rattle.chip.specs.Device.{busyWith, busy, device}
-use Rattle.chip.specs.Sequence.{effectOf, ignored, newOperation}
-use Rattle.chip.specs.Cycle.{Chip, chip}
+use Rattle.commands.specs.Commands.{effectOf}
+use Rattle.chip.specs.Sequence.{ignored, newOperation}
+use Rattle.chip.specs.Cycle.{cycle, Chip, chip}
 use Rattle.chip.specs.Trace.{after, play, startedBy, startedIn}
 use Rattle.chip.proofs.Cases.{write-leaves, write-starts}
-use Rattle.driver.specs.declared.writes.Write.{Write}
+use Rattle.commands.specs.declared.write.Write.{Write}
 use Rattle.driver.specs.Writes.{lastWrite, writesOf}
-use Rattle.driver.specs.Talk.{cycle, writeCycle, writeCycles, operationOf}
+use Rattle.driver.specs.Talk.{writeCycle, writeCycles, operationOf}
 use Rattle.driver.proofs.Asked.{Target}
 
 -- the commands of a part are four

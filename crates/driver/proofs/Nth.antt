@@ -7,7 +7,7 @@ use native.Mathlib.Omega.{arith}
 use lib.ListN.{getD}
 use Rattle.parts.specs.Pick.{pick}
 use Rattle.parts.specs.declared.table.Row.{Row}
-use Rattle.driver.specs.declared.writes.Write.{Write}
+use Rattle.commands.specs.declared.write.Write.{Write}
 use Rattle.driver.specs.Writes.{noWrite, unlock, write}
 
 -- the writes of program, or of an erase, with the last one

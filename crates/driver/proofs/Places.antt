@@ -4,7 +4,7 @@ use mathlib.Core.Path.{_≡_, refl, ap, _∙_}
 use mathlib.Core.List.{List, [], _∷_, _++_}
 use lib.ListN.{getD, replicate}
 use lib.Seq.{getD-take}
-use Rattle.driver.specs.declared.writes.Write.{Write}
+use Rattle.commands.specs.declared.write.Write.{Write}
 use Rattle.driver.specs.declared.writes.Writes.{Writes}
 use Rattle.driver.specs.Writes.{noWrite, sixPlaces, writes}
 

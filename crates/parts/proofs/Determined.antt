@@ -19,6 +19,8 @@ use Rattle.parts.proofs.table.Row.sector_size.Kinds as sector-size-kind
 use Rattle.parts.proofs.table.Row.sector_size.Reads as sector-size-reads
 use Rattle.parts.proofs.table.Row.sector_of.Kinds as sector-of-kinds
 use Rattle.parts.proofs.table.Row.sector_of.Reads as sector-of-reads
+use Rattle.parts.proofs.table.Row.has_blocks.Kinds as has-blocks-kinds
+use Rattle.parts.proofs.table.Row.has_blocks.Reads as has-blocks-reads
 use Rattle.parts.proofs.table.Row.block_of.Kinds as block-of-kinds
 use Rattle.parts.proofs.table.Row.block_of.Reads as block-of-reads
 use Rattle.parts.proofs.table.Row.protected_range.Kinds as protected-range-kinds
@@ -48,6 +50,9 @@ sector-size-unique κs a x y s t p q = p ∙ sym q
 
 pub sector-of-unique : Unique sector-of-kinds.ps sector-of-kinds.r sector-of-reads.Post
 sector-of-unique κs a x y s t p q = p ∙ sym q
+
+pub has-blocks-unique : Unique has-blocks-kinds.ps has-blocks-kinds.r has-blocks-reads.Post
+has-blocks-unique κs a x y s t p q = p ∙ sym q
 
 pub block-of-unique : Unique block-of-kinds.ps block-of-kinds.r block-of-reads.Post
 block-of-unique κs a x y s t p q = p ∙ sym q

@@ -32,6 +32,11 @@ pub split : {A : Type 0} (P : A → Type 0) (b : Bool) (x y : A) → (b ≡ true
 split P true x y f g = f refl
 split P false x y f g = g refl
 
+-- a choice between a thing and itself
+pub pick-same : {A : Type 0} (b : Bool) (x : A) → pick b x x ≡ x
+pick-same true x = refl
+pick-same false x = refl
+
 -- the test f holds at each entry
 abbrev pub every : {A : Type 0} → (A → Bool) → List A → Bool
 every f [] = true

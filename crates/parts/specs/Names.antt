@@ -1,4 +1,5 @@
--- The numbers of document 01 by name: commands, and the table of refusals. Capitals as in the source, its `_` as `-`.
+-- The numbers of document 01 by name: commands, stages of a write sequence, kinds of a last cycle, and the table of refusals.
+-- Capitals as in the source, its `_` as `-`.
 use Prim.Native.Nat.{ℕ}
 
 -- ---- commands
@@ -17,6 +18,48 @@ BLOCK = 2
 -- chip erase
 abbrev pub CHIP : ℕ
 CHIP = 3
+
+-- ---- the seven stages of a write sequence
+-- none begun
+abbrev pub NONE-BEGUN : ℕ
+NONE-BEGUN = 0
+
+-- AAH at U1
+abbrev pub FIRST-AAH : ℕ
+FIRST-AAH = 1
+
+-- 55H at U2
+abbrev pub FIRST-55H : ℕ
+FIRST-55H = 2
+
+-- A0H at U1: program is armed
+abbrev pub ARMED : ℕ
+ARMED = 3
+
+-- 80H at U1: it goes on
+abbrev pub GONE-ON : ℕ
+GONE-ON = 4
+
+-- AAH at U1 again
+abbrev pub SECOND-AAH : ℕ
+SECOND-AAH = 5
+
+-- 55H at U2 again
+abbrev pub SECOND-55H : ℕ
+SECOND-55H = 6
+
+-- ---- the last cycle that was sent
+-- none
+abbrev pub NO-CYCLE : ℕ
+NO-CYCLE = 0
+
+-- a read
+abbrev pub A-READ : ℕ
+A-READ = 1
+
+-- a write
+abbrev pub A-WRITE : ℕ
+A-WRITE = 2
 
 -- ---- refusals
 -- part above 10

@@ -1,4 +1,4 @@
-// The numbers of document 01 by name: commands, and the table of refusals.
+// The numbers of document 01 by name: commands, stages of a write sequence, kinds of a last cycle, and the table of refusals.
 
 // ---- commands
 // program
@@ -9,6 +9,30 @@ pub const SECTOR: u32 = 1;
 pub const BLOCK: u32 = 2;
 // chip erase
 pub const CHIP: u32 = 3;
+
+// ---- the seven stages of a write sequence
+// none begun
+pub const NONE_BEGUN: u32 = 0;
+// AAH at U1
+pub const FIRST_AAH: u32 = 1;
+// 55H at U2
+pub const FIRST_55H: u32 = 2;
+// A0H at U1: program is armed
+pub const ARMED: u32 = 3;
+// 80H at U1: it goes on
+pub const GONE_ON: u32 = 4;
+// AAH at U1 again
+pub const SECOND_AAH: u32 = 5;
+// 55H at U2 again
+pub const SECOND_55H: u32 = 6;
+
+// ---- the last cycle that was sent
+// none
+pub const NO_CYCLE: u32 = 0;
+// a read
+pub const A_READ: u32 = 1;
+// a write
+pub const A_WRITE: u32 = 2;
 
 // ---- refusals
 // part above 10

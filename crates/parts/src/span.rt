@@ -3,7 +3,7 @@ use crate::End;
 use crate::Row;
 ghost use mathlib.Core.Path.{_≡_};
 ghost use Prim.Native.Nat.{_-_};
-ghost use Rattle.parts.specs.Span.{blockOf, holdsb, protectedOf, rangeOf, sectorOf};
+ghost use Rattle.parts.specs.Span.{blockOf, hasBlocks, holdsb, protectedOf, rangeOf, sectorOf};
 ghost use Rattle.parts.specs.Width.{sectorSize};
 
 // A range of cells: its first address and how many.
@@ -63,6 +63,13 @@ impl Row {
         ensures { λ r. ⌜ r ≡ sectorOf self address ⌝ }
     {
         range(self.sector_size(), address)
+    }
+
+    // Whether the part has blocks.
+    pub fn has_blocks(self) -> bool
+        ensures { λ r. ⌜ r ≡ hasBlocks self ⌝ }
+    {
+        0 < self.block
     }
 
     // The block of an address; no cells where the part has no blocks.

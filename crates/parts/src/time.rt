@@ -27,7 +27,7 @@ impl Row {
             return false;
         }
         if command == BLOCK {
-            return 0 < self.block;
+            return self.has_blocks();
         }
         true
     }

@@ -8,8 +8,8 @@ use chip::Action;
 use chip::Core;
 use chip::Cycle;
 use chip::Device;
-use chip::Mode;
 use chip::Operation;
+use commands::Mode;
 
 // What a cycle answers, and the station with the state handed back and the value given.
 pub(crate) struct Sent {

@@ -7,10 +7,10 @@ use crate::station::Station;
 use crate::station::Turn;
 use chip::Action;
 use chip::Cycle;
+use commands::Write;
 use driver::Driver;
 use driver::Next;
 use driver::Phase;
-use driver::Write;
 
 // The cycle that a step names, as numbers: kind 0 none, 1 read, 2 write.
 struct Named {

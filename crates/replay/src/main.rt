@@ -4,8 +4,8 @@ ghost use mathlib.Core.Path.{_≡_};
 ghost use lib.ListN.{length};
 
 mod cells;
-mod commands;
 mod cycles;
+mod dispatch;
 mod driving;
 mod files;
 mod jobs;

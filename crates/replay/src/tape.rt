@@ -1,5 +1,5 @@
 // A whole input: line after line until standard input ends.
-use crate::commands::command;
+use crate::dispatch::command;
 use crate::page::print_line;
 use crate::page::write_out;
 use crate::reel::Reel;

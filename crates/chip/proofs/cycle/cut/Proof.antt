@@ -7,7 +7,7 @@ use Rattle.chip.proofs.cycle.cut.Tie as tie
 
 cut-short-requires : tie.Need-cut-short-requires
 unfolding cutOf
-cut-short-requires c κs = c .before .before .before .before .before .pre .within (lt-ltb 0 _ (c .before .if1 .taken))
+cut-short-requires c κs = c .before .before .before .before .before .pre .inside (lt-ltb 0 _ (c .before .if1 .taken))
 
 returns : tie.Need-returns
 unfolding cutOf

@@ -16,7 +16,7 @@ returns-2 c = simp (lt-ltb 0 _ (c .before .before .before .if1 .left), lt-ltb _ 
 
 complete-requires : tie.Need-complete-requires
 unfolding settledOf
-complete-requires c κs = (c .before .before .before .before .before .pre .1 .within (lt-ltb 0 _ (c .before .before .if1 .left)), c .before .before .before .before .before .pre .0)
+complete-requires c κs = (c .before .before .before .before .before .pre .1 .inside (lt-ltb 0 _ (c .before .before .if1 .left)), c .before .before .before .before .before .pre .0)
 
 returns-3 : tie.Need-returns-3
 unfolding settledOf

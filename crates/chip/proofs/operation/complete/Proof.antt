@@ -32,7 +32,7 @@ unfolding completeOn
 returns-2 c = let g = c .before .before .before .before .before .before .before .before .before .before .before .args in
     let s = c .before .before .before .before .before .before .before .cells-of .result in
     let k = s .first + s .count - s .first in
-    let b : c .before .before .before .blank .result ≡ blankOf (g .row .width) = c .before .before .before .blank .ensures ∙ blank-word _ (c .before .before .before .before .before .before .before .before .before .before .before .pre .1 .narrow) in
+    let b : c .before .before .before .blank .result ≡ blankOf (g .row .width) = c .before .before .before .blank .ensures ∙ blank-word _ (c .before .before .before .before .before .before .before .before .before .before .before .pre .1 .values) in
     came-back (finished (g .row) (g .o)) (g .row) (g .o) (g .cells .now) (c .before .before .fill .last .0) s k (c .before .before .before .before .before .before .before .cells-of .ensures) (omega arith)
     (c .before .before .fill .ensures ∙ map-same (λ x. c .before .before .before .blank .result) (finished (g .row) (g .o)) (λ x. b ∙ finished-erase (g .row) (g .o) x (c .before .before .before .before .before .before .before .before .if1 .left)) (take k (drop (s .first) (g .cells .now))))
 

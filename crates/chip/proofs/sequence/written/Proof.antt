@@ -11,7 +11,7 @@ returns c = simp (sym (c .before .is-busy .ensures) ∙ c .if1 .taken)
 
 returns-2 : tie.Need-returns-2
 unfolding writtenOf
-returns-2 c = simp (sym (c .before .before .before .before .is-busy .ensures) ∙ c .before .before .before .if1 .left, c .before .core-after .ensures, c .stage-after .ensures, c .before .before .effect-of .ensures)
+returns-2 c = simp (sym (c .before .before .before .is-busy .ensures) ∙ c .before .before .if1 .left, sym (c .before .effect-of .ensures)) (c .after-effect .ensures)
 
 pub written-spec : {M : Type 1} → statement M
-written-spec = tie.close (tie.spec (λ c κs. search needs) returns (λ c κs. search needs) (λ c κs. search needs) (λ c κs. search needs) returns-2)
+written-spec = tie.close (tie.spec (λ c κs. search needs) returns (λ c κs. search needs) (λ c κs. search needs) returns-2)

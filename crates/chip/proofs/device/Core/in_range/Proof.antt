@@ -12,11 +12,11 @@ returns c = simp (sym (c .before .is-busy .ensures) ∙ not-true _ (c .if1 .take
 
 returns-2 : tie.Need-returns-2
 unfolding coreInRange
-returns-2 c = simp (sym (c .before .before .before .before .before .is-busy .ensures) ∙ not-false _ (c .before .before .before .before .if1 .left), sym (c .before .before .before .reads .ensures) ∙ c .before .before .if2 .taken) (c .is-valid .ensures)
+returns-2 c = simp (sym (c .before .before .before .before .before .is-busy .ensures) ∙ not-false _ (c .before .before .before .before .if1 .left), sym (c .before .before .before .reads-cells .ensures) ∙ c .before .before .if2 .taken) (c .is-valid .ensures)
 
 returns-3 : tie.Need-returns-3
 unfolding coreInRange
-returns-3 c = simp (sym (c .before .before .before .is-busy .ensures) ∙ not-false _ (c .before .before .if1 .left), sym (c .before .reads .ensures) ∙ c .if2 .left)
+returns-3 c = simp (sym (c .before .before .before .is-busy .ensures) ∙ not-false _ (c .before .before .if1 .left), sym (c .before .reads-cells .ensures) ∙ c .if2 .left)
 
 pub in-range-spec : {M : Type 1} → statement M
 in-range-spec = tie.close (tie.spec (λ c κs. search needs) returns (λ c κs. search needs) (λ c κs. search needs) returns-2 returns-3)

@@ -1,0 +1,17 @@
+-- What the functions inside the crate need of a row and of a core: facts of every known part and of every state in range.
+use Prim.Native.Nat.{ℕ, _+_, _≤_, _<_}
+use mathlib.Core.Path.{_≡_}
+use mathlib.Core.Bool.{true}
+use Rattle.parts.specs.declared.table.Row.{Row}
+use Rattle.chip.specs.declared.device.Core.{Core}
+use Rattle.chip.specs.Device.{busy}
+use Rattle.chip.specs.Operation.{cellsOf}
+
+-- the values and the device ID of the part are words
+pub record InWords (r : Row) : Type 0 where
+  pub values : r .width ≤ 16
+  pub identity : r .device < 65536
+
+-- the cells of an operation that runs are among the n lent ones
+pub record RunsInside (r : Row) (k : Core) (n : ℕ) : Type 0 where
+  pub inside : busy k ≡ true → cellsOf r (k .running) .first + cellsOf r (k .running) .count ≤ n

@@ -1,0 +1,5 @@
+// A write of a command.
+pub struct Write {
+    pub address: u32,
+    pub data: u16,
+}

@@ -1,0 +1,52 @@
+-- A job that was not refused: what is known of it.
+use Prim.Native.Nat.{ℕ, zero, suc, _+_, _%_, _≤_, _<_}
+use mathlib.Core.Path.{_≡_, refl}
+use mathlib.Core.Bool.{true, false}
+use mathlib.Core.List.{List, [], _∷_}
+use native.Mathlib.Nat.{not-suc-le-zero, le-of-suc-le-suc}
+use native.Mathlib.Omega.{arith}
+use lib.ListN.{length, getD}
+use Rattle.parts.specs.Width.{fitsIn, sectorSize}
+use Rattle.parts.specs.Table.{rowOf, partRefusal}
+use Rattle.parts.specs.Time.{hasCommand}
+use Rattle.parts.proofs.Every.{both}
+use Rattle.chip.specs.Sequence.{ignored}
+use Rattle.driver.specs.Refusals.{startRefusal}
+use Rattle.driver.proofs.Asked.{beginning}
+use Rattle.job.specs.declared.loader.Job.{Job}
+use Rattle.job.specs.Refusal.{fitAll}
+
+pub record AcceptedJob (j : Job) (image : List ℕ) : Type 0 where
+  pub known : partRefusal (j .part) ≡ 0
+  pub row : j .row ≡ rowOf (j .part)
+  pub size : j .size ≡ sectorSize (rowOf (j .part) .width)
+  pub count : j .count ≡ length image
+  pub range : j .first + j .count ≤ rowOf (j .part) .cells
+  pub aligned : j .first % j .size ≡ 0
+  pub whole : j .count % j .size ≡ 0
+  pub fits : fitAll (rowOf (j .part) .width) image ≡ true
+  pub some : 0 < j .p
+  pub most : j .p ≤ 1000
+  -- WP# protects no cell of the range from a program or a sector erase
+  pub heeded : (command a : ℕ) → command ≤ 1 → j .first ≤ a → a < j .first + j .count → ignored (rowOf (j .part)) (j .wp) command a ≡ false
+
+-- an image value fits
+pub fit-at : (w : ℕ) (xs : List ℕ) → fitAll w xs ≡ true → (i : ℕ) → i < length xs → fitsIn w (getD xs i 0) ≡ true
+unfolding fitAll
+fit-at w [] e i h = absurd (not-suc-le-zero h)
+fit-at w (x ∷ xs) e zero h = both (fitsIn w x) (fitAll w xs) e .0
+fit-at w (x ∷ xs) e (suc i) h = fit-at w xs (both (fitsIn w x) (fitAll w xs) e .1) i (le-of-suc-le-suc h)
+
+module _ (j : Job) (image : List ℕ) (R : AcceptedJob j image) where
+  -- the driver of a program of a value of the image, and of a sector erase, starts
+  pub program-starts : (a k : ℕ) → a < rowOf (j .part) .cells → k < length image → startRefusal (j .part) 0 a (getD image k 0) (j .p) ≡ 0
+  unfolding hasCommand
+  program-starts a k t h =
+      beginning (j .part) 0 a (getD image k 0) (j .p)
+      (record { asked = record { known = R .known; target = record { has = refl; there = λ _. t; fits = λ _. fit-at (rowOf (j .part) .width) image (R .fits) k h } }; some = R .some; most = R .most })
+
+  pub erase-starts : (a : ℕ) → a < rowOf (j .part) .cells → startRefusal (j .part) 1 a 0 (j .p) ≡ 0
+  unfolding hasCommand
+  erase-starts a t =
+      beginning (j .part) 1 a 0 (j .p)
+      (record { asked = record { known = R .known; target = record { has = refl; there = λ _. t; fits = λ e. absurd (omega arith) } }; some = R .some; most = R .most })
