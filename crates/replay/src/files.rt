@@ -7,7 +7,6 @@ use crate::line::no_line;
 use crate::station::Station;
 use crate::station::Turn;
 use crate::station::least;
-use job::Bill;
 use jobfile::JobFile;
 
 // Command 60: byte i becomes a + b*i, of which only the low 8 bits count.
@@ -61,8 +60,8 @@ fn parse(s: Station, file: &[u8]) -> Turn {
     s.says(parse_says(asked, h))
 }
 
-// The bill of a job file's job on some cells.
-fn bill_of(file: &[u8], values: &mut [u16], cells: &mut [u16], asked: JobFile) -> Bill {
+// A job file's job on some cells.
+fn load_file(file: &[u8], values: &mut [u16], cells: &mut [u16], asked: JobFile) {
     let count = least(asked.count, values.len());
     jobfile::read_image(file, asked.start, &mut values[0..count]);
     job::load(
@@ -72,28 +71,18 @@ fn bill_of(file: &[u8], values: &mut [u16], cells: &mut [u16], asked: JobFile) -
         &values[0..count],
         asked.wp,
         asked.p,
-    )
+    );
 }
 
-// What command 63 prints.
-fn bill_says(b: Bill) -> Line {
+// The bill of a file; blank cells become what its job leaves.
+fn bill(file: &[u8], cells: &mut [u16]) -> Line {
+    let b = billing::bill_file(file);
     if 0 < b.answer {
         return no_line().and(63).and32(b.answer);
     }
-    and_bill(no_line().and(63), b)
-}
-
-// The bill of a file on blank cells.
-fn bill(file: &[u8], cells: &mut [u16]) -> Line {
-    if 20480 < file.len() {
-        return no_line().and(63).and(13);
-    }
-    let asked = jobfile::read_job(file);
-    if 0 < asked.answer {
-        return no_line().and(63).and32(asked.answer);
-    }
     let mut values = [0u16; 10240];
-    bill_says(bill_of(file, &mut values, cells, asked))
+    load_file(file, &mut values, cells, jobfile::read_job(file));
+    and_bill(no_line().and(63), b)
 }
 
 // The bill of a file on the bench's cells.

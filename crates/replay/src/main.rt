@@ -1,5 +1,5 @@
 // The second program's recorded cases, run on the proved code: an interpreter of tests/second/FORMAT.md whose commands call
-// parts, chip, driver, job and jobfile. It prints what they answer; tests/replay says what that is held to.
+// parts, chip, driver, job, jobfile and billing. It prints what they answer; tests/replay says what that is held to.
 ghost use mathlib.Core.Path.{_≡_};
 ghost use lib.ListN.{length};
 
