@@ -2,7 +2,7 @@
 use Prim.Native.Nat.{ℕ, zero, suc, _-_, _%_, _≤_, _<_}
 use mathlib.Core.Path.{_≡_, refl, sym, ap, _∙_}
 use mathlib.Core.Bool.{Bool, true, false}
-use mathlib.Core.List.{List, [], _∷_}
+use mathlib.Core.List.{List, [], _∷_, _++_}
 use native.Mathlib.Omega.{arith}
 use borrow.Author.Tests.{lt-ltb, eq-eqb, ne-eqb, eqb-true, eqb-false}
 use lib.Dec.{eqb, ltb}
@@ -86,10 +86,15 @@ module _ (part : ℕ) (cells : List ℕ) (d : Device) (e : ℕ) (wp : Bool) wher
       split (λ (o : Outcome). o .reply .device .core .mode ≡ d .core .mode) (eqb (cycleRefusal part (length cells) d (Read a)) 0) _ _
       (λ _. read-mode (rowOf part) _ _ a ∙ settled-mode (rowOf part)) (λ _. refl)
 
-  -- In identification mode address 0 shows the maker, 1 the device, others 0; nothing else changes.
-  pub identifies : (a : ℕ) → Taken (Read a) → busy (d .core) ≡ false → d .core .mode ≡ Identification → gives (Read a) ≡ outcome cells (identity (rowOf part) a) d
+  -- In identification mode address 0 shows the maker, BFH, 1 the device, others 0; nothing else changes.
+  pub identifies : (a : ℕ) → Taken (Read a) → busy (d .core) ≡ false → d .core .mode ≡ Identification → gives (Read a) ≡ outcome cells (getD (0xbf ∷ rowOf part .device ∷ []) a 0) d
   unfolding acceptedOf readOf
-  identifies a z b m = taken (Read a) z ∙ rw (rests (rowOf part) cells (d .core) e b) (simp (b, m))
+  identifies a z b m = taken (Read a) z ∙ rw (rests (rowOf part) cells (d .core) e b) (simp (b, m) (ap (λ (v : ℕ). outcome cells v d) (same a)))
+    where
+      same : (a : ℕ) → identity (rowOf part) a ≡ getD (0xbf ∷ rowOf part .device ∷ []) a 0
+      same zero = refl
+      same (suc zero) = refl
+      same (suc (suc a)) = simp (ne-eqb (suc (suc a)) 0 (λ z. omega arith), ne-eqb (suc (suc a)) 1 (λ z. omega arith))
 
   -- After any cut the device is fresh; a cut at rest changes no cell.
   pub cut-fresh : (s : ℕ) → Taken (Cut s) → gives (Cut s) .reply .device ≡ freshDevice
@@ -251,13 +256,21 @@ start-ends-modes part h c o os =
     acts (Cut w) q = nothing o os q
 
 -- ---- of lists of cycles
--- A refused cycle can be left out of a list, wherever it stands.
-pub left-out : (part : ℕ) (h : Chip) (c : Cycle) (cs : List Cycle) → (cycleRefusal part (length (h .cells)) (h .device) (c .action) ≡ 0 → ⊥)
+-- A refused cycle can be left out of a list, wherever it stands: after any cycles bs, and in front of any others.
+left-out-first : (part : ℕ) (h : Chip) (c : Cycle) (cs : List Cycle) → (cycleRefusal part (length (h .cells)) (h .device) (c .action) ≡ 0 → ⊥)
     → (play part h (c ∷ cs) ≡ play part h cs) × (startedIn part h (c ∷ cs) ≡ startedIn part h cs)
 unfolding after startedBy
-left-out part h c cs n =
+left-out-first part h c cs n =
     let e = refused-cycle part (h .cells) (h .device) c n in
     (rw e, rw (e, ne-eqb (cycleRefusal part (length (h .cells)) (h .device) (c .action)) 0 n))
+
+pub left-out : (part : ℕ) (bs : List Cycle) (h : Chip) (c : Cycle) (cs : List Cycle)
+    → (cycleRefusal part (length (play part h bs .cells)) (play part h bs .device) (c .action) ≡ 0 → ⊥)
+    → (play part h (bs ++ (c ∷ cs)) ≡ play part h (bs ++ cs)) × (startedIn part h (bs ++ (c ∷ cs)) ≡ startedIn part h (bs ++ cs))
+left-out part [] h c cs n = left-out-first part h c cs n
+left-out part (b ∷ bs) h c cs n =
+    let w = left-out part bs (after part h b) c cs n in
+    (w .0, ap (λ (os : List Operation). startedBy part h b ++ os) (w .1))
 
 -- The states reached from one in range, as a fresh device is, by any list of cycles, are in range.
 stays : (part : ℕ) (h : Chip) (c : Cycle) → deviceInRange (rowOf part) (h .device) ≡ true → deviceInRange (rowOf part) (after part h c .device) ≡ true
