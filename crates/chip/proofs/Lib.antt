@@ -9,3 +9,5 @@ pub mod Started
 pub mod Trace
 pub mod Ranges
 pub mod Determined
+pub mod Sentences
+pub mod Untouched

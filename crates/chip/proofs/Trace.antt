@@ -32,7 +32,7 @@ use Rattle.chip.proofs.Idle.{idle-is, idle-rests}
 use Rattle.commands.proofs.Effects.{effect-is}
 
 -- two choices by one test
-twice : {A B : Type 0} (P : A → B → Type 0) (b : Bool) (x y : A) (u v : B) → (b ≡ true → P x u) → (b ≡ false → P y v) → P (pick b x y) (pick b u v)
+pub twice : {A B : Type 0} (P : A → B → Type 0) (b : Bool) (x y : A) (u v : B) → (b ≡ true → P x u) → (b ≡ false → P y v) → P (pick b x y) (pick b u v)
 twice P true x y u v f g = f refl
 twice P false x y u v f g = g refl
 

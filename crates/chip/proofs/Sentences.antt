@@ -1,0 +1,286 @@
+-- A law for each sentence of document 01's "One bus cycle" and "Writes in sequence" that no other law says.
+use Prim.Native.Nat.{ℕ, zero, suc, _-_, _%_, _≤_, _<_}
+use mathlib.Core.Path.{_≡_, refl, sym, ap, _∙_}
+use mathlib.Core.Bool.{Bool, true, false}
+use mathlib.Core.List.{List, [], _∷_, _++_}
+use native.Mathlib.Omega.{arith}
+use borrow.Author.Tests.{lt-ltb, eq-eqb, ne-eqb, eqb-true, eqb-false}
+use lib.Dec.{eqb, ltb}
+use lib.ListN.{length, getD}
+use Rattle.parts.specs.Pick.{pick}
+use Rattle.parts.specs.Width.{fitsIn}
+use Rattle.parts.specs.Table.{lines, noLine, rowFrom, rowOf, partRefusal}
+use Rattle.parts.specs.Span.{hasBlocks}
+use Rattle.parts.specs.declared.table.Row.{Row}
+use Rattle.parts.specs.declared.table.Line.{Line}
+use Rattle.parts.proofs.Every.{apart, unless, every, at, split}
+use Rattle.parts.proofs.Sound.{known, codes-differ}
+use Rattle.chip.specs.declared.device.Mode.the-variants.{ReadMode, Identification}
+use Rattle.chip.specs.declared.device.Operation.{Operation}
+use Rattle.chip.specs.declared.device.Core.{Core}
+use Rattle.chip.specs.declared.device.Device.{Device}
+use Rattle.chip.specs.declared.sequence.Effect.{Effect}
+use Rattle.chip.specs.declared.sequence.Effect.the-variants.{Starts}
+use Rattle.chip.specs.declared.cycle.Action.{Action}
+use Rattle.chip.specs.declared.cycle.Action.the-variants.{Read, Write, Idle, Cut}
+use Rattle.chip.specs.declared.cycle.Cycle.{Cycle}
+use Rattle.chip.specs.declared.cycle.Shown.{Shown}
+use Rattle.chip.specs.Device.{noOperation, busy, device, freshDevice, core, inMode, deviceInRange}
+use Rattle.chip.specs.Sequence.{Wanted, AtU1, AtU2, At, Anything, isWanted, broken, effectOf, ignored, afterEffect, writtenOf}
+use Rattle.chip.specs.Cycle.{Chip, chip, Outcome, outcome, identity, readOf, cutOf, settledOf, Settled, passed, actionRefusal, cycleRefusal, actedOf, acceptedOf, cycleOf}
+use Rattle.chip.specs.Trace.{leaves, after, play, effectStarts, actionStarts, startedBy, startedIn}
+use Rattle.chip.proofs.Accepted.{accepted}
+use Rattle.chip.proofs.Cases.{cycle, accepted-cycle, refused-cycle, rests, write-leaves, write-starts}
+use Rattle.chip.proofs.Bits.{pick-same}
+use Rattle.chip.proofs.Effects.{effect-is}
+use Rattle.chip.proofs.Trace.{twice}
+use Rattle.chip.proofs.Ranges.{after-range}
+
+-- ---- of a cycle that is not refused
+module _ (part : ℕ) (cells : List ℕ) (d : Device) (e : ℕ) (wp : Bool) where
+  abbrev Taken : Action → Type 0
+  Taken a = cycleRefusal part (length cells) d a ≡ 0
+
+  abbrev gives : Action → Outcome
+  gives a = cycleOf part cells d (cycle e wp a)
+
+  taken : (a : Action) → Taken a → gives a ≡ acceptedOf (rowOf part) cells d (cycle e wp a)
+  taken a z = accepted-cycle part cells d (cycle e wp a) (accepted part (length cells) d a z)
+
+  -- where an action is taken, idle time is
+  idles : (a : Action) → Taken a → gives Idle ≡ acceptedOf (rowOf part) cells d (cycle e wp Idle)
+  unfolding actionRefusal
+  idles a z =
+      let w = accepted part (length cells) d a z in
+      accepted-cycle part cells d (cycle e wp Idle) (record { known = w .known; whole = w .whole; state = w .state; reach = refl })
+
+  -- A write while busy does nothing: it is as idle time.
+  pub busy-write : (a x : ℕ) → Taken (Write a x) → e < d .core .running .left → gives (Write a x) ≡ gives Idle
+  unfolding acceptedOf settledOf writtenOf
+  busy-write a x z l =
+      let left = d .core .running .left in
+      let same : acceptedOf (rowOf part) cells d (cycle e wp (Write a x)) ≡ acceptedOf (rowOf part) cells d (cycle e wp Idle)
+      = simp (lt-ltb 0 left (omega arith), lt-ltb e left l, lt-ltb 0 (left - e) (omega arith)) in
+      taken (Write a x) z ∙ (same ∙ sym (idles (Write a x) z))
+
+  -- A read disturbs no sequence, in any mode: the stage and the mode are what they were.
+  pub read-keeps-stage : (a : ℕ) → gives (Read a) .reply .device .stage ≡ d .stage
+  unfolding cycleOf acceptedOf
+  read-keeps-stage a = split (λ (o : Outcome). o .reply .device .stage ≡ d .stage) (eqb (cycleRefusal part (length cells) d (Read a)) 0) _ _ (λ _. refl) (λ _. refl)
+
+  settled-mode : (r : Row) → settledOf r cells (d .core) e .core .mode ≡ d .core .mode
+  unfolding settledOf
+  settled-mode r =
+      split Same (busy (d .core)) _ _ (λ _. split Same (ltb e (d .core .running .left)) _ _ (λ _. refl) (λ _. refl)) (λ _. refl)
+    where
+      Same : Settled → Type 0
+      Same s = s .core .mode ≡ d .core .mode
+
+  read-mode : (r : Row) (l : List ℕ) (k : Core) (a : ℕ) → readOf r l k a .core .mode ≡ k .mode
+  unfolding readOf
+  read-mode r l k a = split (λ (s : Shown). s .core .mode ≡ k .mode) (busy k) _ _ (λ _. refl) (λ _. refl)
+
+  pub read-keeps-mode : (a : ℕ) → gives (Read a) .reply .device .core .mode ≡ d .core .mode
+  unfolding cycleOf acceptedOf
+  read-keeps-mode a =
+      split (λ (o : Outcome). o .reply .device .core .mode ≡ d .core .mode) (eqb (cycleRefusal part (length cells) d (Read a)) 0) _ _
+      (λ _. read-mode (rowOf part) _ _ a ∙ settled-mode (rowOf part)) (λ _. refl)
+
+  -- In identification mode address 0 shows the maker, BFH, 1 the device, others 0; nothing else changes.
+  pub identifies : (a : ℕ) → Taken (Read a) → busy (d .core) ≡ false → d .core .mode ≡ Identification → gives (Read a) ≡ outcome cells (getD (0xbf ∷ rowOf part .device ∷ []) a 0) d
+  unfolding acceptedOf readOf
+  identifies a z b m = taken (Read a) z ∙ rw (rests (rowOf part) cells (d .core) e b) (simp (b, m) (ap (λ (v : ℕ). outcome cells v d) (same a)))
+    where
+      same : (a : ℕ) → identity (rowOf part) a ≡ getD (0xbf ∷ rowOf part .device ∷ []) a 0
+      same zero = refl
+      same (suc zero) = refl
+      same (suc (suc a)) = simp (ne-eqb (suc (suc a)) 0 (λ z. omega arith), ne-eqb (suc (suc a)) 1 (λ z. omega arith))
+
+  -- After any cut the device is fresh; a cut at rest changes no cell.
+  pub cut-fresh : (s : ℕ) → Taken (Cut s) → gives (Cut s) .reply .device ≡ freshDevice
+  unfolding acceptedOf
+  cut-fresh s z = rw (taken (Cut s) z)
+
+  pub cut-at-rest : (s : ℕ) → Taken (Cut s) → busy (d .core) ≡ false → gives (Cut s) ≡ outcome cells 0 freshDevice
+  unfolding acceptedOf cutOf
+  cut-at-rest s z b = taken (Cut s) z ∙ rw (rests (rowOf part) cells (d .core) e b) (simp b)
+
+-- ---- of writes in sequence
+-- the writes that continue a sequence, stage by stage: with none begun AAH at U1; 55H at U2; then at U1 A0H, 90H, F0H or 80H;
+-- after A0H any; after 80H AAH at U1, 55H at U2; then the sector or block code anywhere, or 10H at U1
+abbrev pub continuing : Row → List (List Wanted)
+continuing r =
+    (AtU1 0xaa ∷ [])
+    ∷ (AtU2 0x55 ∷ [])
+    ∷ (AtU1 0xa0 ∷ AtU1 0x90 ∷ AtU1 0xf0 ∷ AtU1 0x80 ∷ [])
+    ∷ (Anything ∷ [])
+    ∷ (AtU1 0xaa ∷ [])
+    ∷ (AtU2 0x55 ∷ [])
+    ∷ (At (r .«sector_code») ∷ At (r .«block_code») ∷ AtU1 0x10 ∷ [])
+    ∷ []
+
+abbrev some : Row → ℕ → ℕ → List Wanted → Bool
+some r a x [] = false
+some r a x (w ∷ ws) = pick (isWanted r a x w) true (some r a x ws)
+
+-- a write continues the sequence that has come to a stage
+abbrev pub continues : Row → ℕ → ℕ → ℕ → Bool
+continues r s a x = some r a x (getD (continuing r) s [])
+
+neither : (b c : Bool) → pick b true c ≡ false → (b ≡ false) × (c ≡ false)
+neither true c e = apart (sym e)
+neither false c e = (refl, e)
+
+-- a write that does not continue is broken
+pub is-broken : (r : Row) (a x s : ℕ) → s ≤ 6 → continues r s a x ≡ false → effectOf r s a x ≡ broken
+unfolding effectOf
+is-broken r a x zero l c = rw (neither (isWanted r a x (AtU1 0xaa)) false c .0)
+is-broken r a x (suc zero) l c = rw (neither (isWanted r a x (AtU2 0x55)) false c .0)
+is-broken r a x (suc (suc zero)) l c =
+    let f = neither (isWanted r a x (AtU1 0xa0)) (some r a x (AtU1 0x90 ∷ AtU1 0xf0 ∷ AtU1 0x80 ∷ [])) c in
+    let g = neither (isWanted r a x (AtU1 0x90)) (some r a x (AtU1 0xf0 ∷ AtU1 0x80 ∷ [])) (f .1) in
+    let h = neither (isWanted r a x (AtU1 0xf0)) (some r a x (AtU1 0x80 ∷ [])) (g .1) in
+    rw (f .0, g .0, h .0, neither (isWanted r a x (AtU1 0x80)) false (h .1) .0)
+is-broken r a x (suc (suc (suc zero))) l c = apart (sym c)
+is-broken r a x (suc (suc (suc (suc zero)))) l c = rw (neither (isWanted r a x (AtU1 0xaa)) false c .0)
+is-broken r a x (suc (suc (suc (suc (suc zero))))) l c = rw (neither (isWanted r a x (AtU2 0x55)) false c .0)
+is-broken r a x (suc (suc (suc (suc (suc (suc zero)))))) l c =
+    let f = neither (isWanted r a x (At (r .«sector_code»))) (some r a x (At (r .«block_code») ∷ AtU1 0x10 ∷ [])) c in
+    let g = neither (isWanted r a x (At (r .«block_code»))) (some r a x (AtU1 0x10 ∷ [])) (f .1) in
+    rw (f .0, g .0, neither (isWanted r a x (AtU1 0x10)) false (g .1) .0)
+is-broken r a x (suc (suc (suc (suc (suc (suc (suc s))))))) l c = absurd (omega arith)
+
+-- no erase code is F0H
+unlike : (part : ℕ) → partRefusal part ≡ 0 → (f : Row → ℕ) → every (λ (l : Line). pick (eqb (f (rowFrom l)) 0xf0) false true) lines ≡ true → f (rowOf part) ≡ 0xf0 → ⊥
+unfolding rowOf
+unlike part k f e = eqb-false _ _ (unless _ true (at (λ (l : Line). pick (eqb (f (rowFrom l)) 0xf0) false true) lines noLine e part (omega (arith, known part k))) .0)
+
+-- F0H is no other byte
+module _ (r : Row) (a x : ℕ) (f : x % 256 ≡ 0xf0) (n : ℕ) (u : eqb 0xf0 n ≡ false) where
+  not-at-u1 : isWanted r a x (AtU1 n) ≡ false
+  not-at-u1 = rw (f, u) (pick-same (eqb (a % r .compared) (r .u1)) false)
+
+  not-at-u2 : isWanted r a x (AtU2 n) ≡ false
+  not-at-u2 = rw (f, u) (pick-same (eqb (a % r .compared) (r .u2)) false)
+
+  not-at : isWanted r a x (At n) ≡ false
+  not-at = rw (f, u)
+
+-- so it returns to read mode, as a command or as a broken write
+resets : (part : ℕ) → partRefusal part ≡ 0 → (a x s : ℕ) → s ≤ 6 → (s ≡ 3 → ⊥) → x % 256 ≡ 0xf0 → effectOf (rowOf part) s a x ≡ broken
+unfolding effectOf
+resets part k a x zero l n f = rw (not-at-u1 (rowOf part) a x f 0xaa refl)
+resets part k a x (suc zero) l n f = rw (not-at-u2 (rowOf part) a x f 0x55 refl)
+resets part k a x (suc (suc zero)) l n f =
+    let r = rowOf part in
+    rw (not-at-u1 r a x f 0xa0 refl, not-at-u1 r a x f 0x80 refl, not-at-u1 r a x f 0x90 refl) (pick-same (isWanted r a x (AtU1 0xf0)) broken)
+resets part k a x (suc (suc (suc zero))) l n f = absurd (n refl)
+resets part k a x (suc (suc (suc (suc zero)))) l n f = rw (not-at-u1 (rowOf part) a x f 0xaa refl)
+resets part k a x (suc (suc (suc (suc (suc zero))))) l n f = rw (not-at-u2 (rowOf part) a x f 0x55 refl)
+resets part k a x (suc (suc (suc (suc (suc (suc zero)))))) l n f =
+    let r = rowOf part in
+    let sector = ne-eqb 0xf0 (r .«sector_code») (λ e. unlike part k (λ (r : Row). r .«sector_code») refl (sym e)) in
+    let block = ne-eqb 0xf0 (r .«block_code») (λ e. unlike part k (λ (r : Row). r .«block_code») refl (sym e)) in
+    rw (not-at r a x f (r .«sector_code») sector, not-at r a x f (r .«block_code») block, not-at-u1 r a x f 0x10 refl)
+resets part k a x (suc (suc (suc (suc (suc (suc (suc s))))))) l n f = absurd (omega arith)
+
+-- the block code on a part without blocks
+no-blocks : (part : ℕ) → partRefusal part ≡ 0 → (a x : ℕ) → hasBlocks (rowOf part) ≡ false → x % 256 ≡ rowOf part .«block_code» → effectOf (rowOf part) 6 a x ≡ broken
+unfolding effectOf
+no-blocks part k a x h f =
+    let r = rowOf part in
+    rw (f, ne-eqb (r .«block_code») (r .«sector_code») (λ e. codes-differ part k (sym e)), eq-eqb (r .«block_code») (r .«block_code») refl, h)
+
+-- on the lent cells of a known part, at rest, at any stage
+module _ (part : ℕ) (cells : List ℕ) (known : partRefusal part ≡ 0) (whole : length cells ≡ rowOf part .cells) (a : ℕ) (there : a < rowOf part .cells)
+    (k : Core) (s e : ℕ) (wp : Bool) (x : ℕ) (b : busy k ≡ false) (le : s ≤ 6) (fits : fitsIn (rowOf part .width) x ≡ true) where
+  -- read mode, no sequence begun, nothing started, the cells as they were
+  abbrev Returns : Type 0
+  Returns =
+      (after part (chip cells (device k s)) (cycle e wp (Write a x)) ≡ chip cells (device (inMode k ReadMode) 0))
+      × (startedBy part (chip cells (device k s)) (cycle e wp (Write a x)) ≡ [])
+
+  breaks : effectOf (rowOf part) s a x ≡ broken → Returns
+  breaks f =
+      let leaves = write-leaves part cells known whole a there k s e wp x b le fits in
+      let starts = write-starts part cells known whole a there k s e wp x b le fits in
+      (leaves ∙ rw f, starts ∙ rw f)
+
+  -- A write that does not continue the sequence begun, or with none begun is not AAH at U1, ends any that is begun and returns to
+  -- read mode; it is not taken as a first write.
+  pub broken-write : continues (rowOf part) s a x ≡ false → Returns
+  broken-write c = breaks (is-broken (rowOf part) a x s le c)
+
+  -- F0H anywhere, save as program data, among them: at any address it returns to read mode.
+  pub reset-returns : (s ≡ 3 → ⊥) → x % 256 ≡ 0xf0 → Returns
+  reset-returns n f = breaks (resets part known a x s le n f)
+
+  -- 50H on parts 1 to 3, which have no blocks, too.
+  pub no-block-returns : hasBlocks (rowOf part) ≡ false → s ≡ 6 → x % 256 ≡ rowOf part .«block_code» → Returns
+  no-block-returns h n f = breaks (rw n (no-blocks part known a x h f))
+
+-- Starting an operation ends identification mode: the device then is in read mode, no sequence begun, and runs what was started.
+nothing : {A : Type 0} (o : Operation) (os : List Operation) → [] ≡ o ∷ os → A
+nothing o os q = let z : _≡_ {A = ℕ} 0 (suc (length os)) = ap length q in absurd (omega arith)
+
+pub start-ends-modes : (part : ℕ) (h : Chip) (c : Cycle) (o : Operation) (os : List Operation) → startedBy part h c ≡ o ∷ os → after part h c .device ≡ device (core ReadMode o) 0
+unfolding after startedBy cycleOf acceptedOf writtenOf
+start-ends-modes part h c o os =
+    twice (λ (out : Outcome) (ops : List Operation). ops ≡ o ∷ os → out .reply .device ≡ device (core ReadMode o) 0)
+    (eqb (cycleRefusal part (length (h .cells)) (h .device) (c .action)) 0) _ _ _ _ (λ _. acts (c .action)) (λ _ q. nothing o os q)
+  where
+    r : Row
+    r = rowOf part
+
+    s : Chip
+    s = passed r h (c .elapsed)
+
+    Ends : Device → List Operation → Type 0
+    Ends d ops = ops ≡ o ∷ os → d ≡ device (core ReadMode o) 0
+
+    starts : (k : Core) (wp : Bool) (a x n : ℕ) → Ends (afterEffect r k wp a x (Starts n)) (effectStarts r wp a x (Starts n))
+    starts k wp a x n =
+        twice (λ (k : Core) (ops : List Operation). Ends (device k 0) ops) (ignored r wp n a) _ _ _ _ (λ _ q. nothing o os q)
+        (λ _ q. ap (λ (l : List Operation). device (core ReadMode (getD l 0 noOperation)) 0) q)
+
+    writes : (d : Device) (wp : Bool) (a x : ℕ) → Ends (writtenOf r d wp a x) (actionStarts r d wp (Write a x))
+    writes d wp a x =
+        twice Ends (busy (d .core)) _ _ _ _ (λ _ q. nothing o os q)
+        (λ _. effect-is (λ (e : Effect). Ends (afterEffect r (d .core) wp a x e) (effectStarts r wp a x e)) r (d .stage) a x
+        (λ _ _ q. nothing o os q) (λ n _. starts (d .core) wp a x n) (λ _ q. nothing o os q))
+
+    acts : (a : Action) → Ends (actedOf r s (c .wp) a .reply .device) (actionStarts r (s .device) (c .wp) a)
+    acts (Read a) q = nothing o os q
+    acts (Write a x) q = writes (s .device) (c .wp) a x q
+    acts Idle q = nothing o os q
+    acts (Cut w) q = nothing o os q
+
+-- ---- of lists of cycles
+-- A refused cycle can be left out of a list, wherever it stands: after any cycles bs, and in front of any others.
+left-out-first : (part : ℕ) (h : Chip) (c : Cycle) (cs : List Cycle) → (cycleRefusal part (length (h .cells)) (h .device) (c .action) ≡ 0 → ⊥)
+    → (play part h (c ∷ cs) ≡ play part h cs) × (startedIn part h (c ∷ cs) ≡ startedIn part h cs)
+unfolding after startedBy
+left-out-first part h c cs n =
+    let e = refused-cycle part (h .cells) (h .device) c n in
+    (rw e, rw (e, ne-eqb (cycleRefusal part (length (h .cells)) (h .device) (c .action)) 0 n))
+
+pub left-out : (part : ℕ) (bs : List Cycle) (h : Chip) (c : Cycle) (cs : List Cycle)
+    → (cycleRefusal part (length (play part h bs .cells)) (play part h bs .device) (c .action) ≡ 0 → ⊥)
+    → (play part h (bs ++ (c ∷ cs)) ≡ play part h (bs ++ cs)) × (startedIn part h (bs ++ (c ∷ cs)) ≡ startedIn part h (bs ++ cs))
+left-out part [] h c cs n = left-out-first part h c cs n
+left-out part (b ∷ bs) h c cs n =
+    let w = left-out part bs (after part h b) c cs n in
+    (w .0, ap (λ (os : List Operation). startedBy part h b ++ os) (w .1))
+
+-- The states reached from one in range, as a fresh device is, by any list of cycles, are in range.
+stays : (part : ℕ) (h : Chip) (c : Cycle) → deviceInRange (rowOf part) (h .device) ≡ true → deviceInRange (rowOf part) (after part h c .device) ≡ true
+unfolding after cycleOf
+stays part h c i = by (eqb (cycleRefusal part (length (h .cells)) (h .device) (c .action)) 0) refl
+  where
+    by : (b : Bool) → eqb (cycleRefusal part (length (h .cells)) (h .device) (c .action)) 0 ≡ b → deviceInRange (rowOf part) (after part h c .device) ≡ true
+    by true e = after-range part h c (accepted part _ _ _ (eqb-true _ _ e))
+    by false e = rw e i
+
+pub reached-range : (part : ℕ) (h : Chip) (cs : List Cycle) → deviceInRange (rowOf part) (h .device) ≡ true → deviceInRange (rowOf part) (play part h cs .device) ≡ true
+reached-range part h [] i = i
+reached-range part h (c ∷ cs) i = reached-range part (after part h c) cs (stays part h c i)
