@@ -4,36 +4,35 @@ use mathlib.Core.Path.{_≡_, refl, sym, ap, _∙_}
 use mathlib.Core.Bool.{Bool, true, false}
 use mathlib.Core.List.{List, [], _∷_, _++_}
 use native.Mathlib.Omega.{arith}
-use borrow.Author.Tests.{lt-ltb, eq-eqb, ne-eqb, eqb-true, eqb-false}
+use borrow.Author.Tests.{lt-ltb, ne-eqb, eqb-true}
 use lib.Dec.{eqb, ltb}
 use lib.ListN.{length, getD}
-use Rattle.parts.specs.Pick.{pick}
 use Rattle.parts.specs.Width.{fitsIn}
-use Rattle.parts.specs.Table.{lines, noLine, rowFrom, rowOf, partRefusal}
+use Rattle.parts.specs.Table.{rowOf, partRefusal}
 use Rattle.parts.specs.Span.{hasBlocks}
 use Rattle.parts.specs.declared.table.Row.{Row}
-use Rattle.parts.specs.declared.table.Line.{Line}
-use Rattle.parts.proofs.Every.{apart, unless, every, at, split}
-use Rattle.parts.proofs.Sound.{known, codes-differ}
-use Rattle.chip.specs.declared.device.Mode.the-variants.{ReadMode, Identification}
+use Rattle.parts.proofs.Every.{split}
+use Rattle.parts.proofs.Sound.{known}
+use Rattle.commands.specs.declared.effect.Mode.the-variants.{ReadMode, Identification}
 use Rattle.chip.specs.declared.device.Operation.{Operation}
 use Rattle.chip.specs.declared.device.Core.{Core}
 use Rattle.chip.specs.declared.device.Device.{Device}
-use Rattle.chip.specs.declared.sequence.Effect.{Effect}
-use Rattle.chip.specs.declared.sequence.Effect.the-variants.{Starts}
+use Rattle.commands.specs.declared.effect.Effect.{Effect}
+use Rattle.commands.specs.declared.effect.Effect.the-variants.{Starts}
 use Rattle.chip.specs.declared.cycle.Action.{Action}
 use Rattle.chip.specs.declared.cycle.Action.the-variants.{Read, Write, Idle, Cut}
 use Rattle.chip.specs.declared.cycle.Cycle.{Cycle}
 use Rattle.chip.specs.declared.cycle.Shown.{Shown}
 use Rattle.chip.specs.Device.{noOperation, busy, device, freshDevice, core, inMode, deviceInRange}
-use Rattle.chip.specs.Sequence.{Wanted, AtU1, AtU2, At, Anything, isWanted, broken, effectOf, ignored, afterEffect, writtenOf}
-use Rattle.chip.specs.Cycle.{Chip, chip, Outcome, outcome, identity, readOf, cutOf, settledOf, Settled, passed, actionRefusal, cycleRefusal, actedOf, acceptedOf, cycleOf}
+use Rattle.commands.specs.Commands.{broken, effectOf}
+use Rattle.chip.specs.Sequence.{ignored, afterEffect, writtenOf}
+use Rattle.chip.specs.Cycle.{cycle, Chip, chip, Outcome, outcome, identity, readOf, cutOf, settledOf, Settled, afterTime, actionRefusal, cycleRefusal, actedOf, acceptedOf, cycleOf}
 use Rattle.chip.specs.Trace.{leaves, after, play, effectStarts, actionStarts, startedBy, startedIn}
 use Rattle.chip.proofs.Accepted.{accepted}
-use Rattle.chip.proofs.Cases.{cycle, accepted-cycle, refused-cycle, rests, write-leaves, write-starts}
-use Rattle.chip.proofs.Bits.{pick-same}
-use Rattle.chip.proofs.Effects.{effect-is}
+use Rattle.chip.proofs.Cases.{accepted-cycle, refused-cycle, rests, write-leaves, write-starts}
+use Rattle.commands.proofs.Effects.{effect-is}
 use Rattle.chip.proofs.Trace.{twice}
+use Rattle.commands.proofs.Broken.{continues, is-broken, resets, no-blocks}
 use Rattle.chip.proofs.Ranges.{after-range}
 
 -- ---- of a cycle that is not refused
@@ -106,91 +105,6 @@ module _ (part : ℕ) (cells : List ℕ) (d : Device) (e : ℕ) (wp : Bool) wher
   cut-at-rest s z b = taken (Cut s) z ∙ rw (rests (rowOf part) cells (d .core) e b) (simp b)
 
 -- ---- of writes in sequence
--- the writes that continue a sequence, stage by stage: with none begun AAH at U1; 55H at U2; then at U1 A0H, 90H, F0H or 80H;
--- after A0H any; after 80H AAH at U1, 55H at U2; then the sector or block code anywhere, or 10H at U1
-abbrev pub continuing : Row → List (List Wanted)
-continuing r =
-    (AtU1 0xaa ∷ [])
-    ∷ (AtU2 0x55 ∷ [])
-    ∷ (AtU1 0xa0 ∷ AtU1 0x90 ∷ AtU1 0xf0 ∷ AtU1 0x80 ∷ [])
-    ∷ (Anything ∷ [])
-    ∷ (AtU1 0xaa ∷ [])
-    ∷ (AtU2 0x55 ∷ [])
-    ∷ (At (r .«sector_code») ∷ At (r .«block_code») ∷ AtU1 0x10 ∷ [])
-    ∷ []
-
-abbrev some : Row → ℕ → ℕ → List Wanted → Bool
-some r a x [] = false
-some r a x (w ∷ ws) = pick (isWanted r a x w) true (some r a x ws)
-
--- a write continues the sequence that has come to a stage
-abbrev pub continues : Row → ℕ → ℕ → ℕ → Bool
-continues r s a x = some r a x (getD (continuing r) s [])
-
-neither : (b c : Bool) → pick b true c ≡ false → (b ≡ false) × (c ≡ false)
-neither true c e = apart (sym e)
-neither false c e = (refl, e)
-
--- a write that does not continue is broken
-pub is-broken : (r : Row) (a x s : ℕ) → s ≤ 6 → continues r s a x ≡ false → effectOf r s a x ≡ broken
-unfolding effectOf
-is-broken r a x zero l c = rw (neither (isWanted r a x (AtU1 0xaa)) false c .0)
-is-broken r a x (suc zero) l c = rw (neither (isWanted r a x (AtU2 0x55)) false c .0)
-is-broken r a x (suc (suc zero)) l c =
-    let f = neither (isWanted r a x (AtU1 0xa0)) (some r a x (AtU1 0x90 ∷ AtU1 0xf0 ∷ AtU1 0x80 ∷ [])) c in
-    let g = neither (isWanted r a x (AtU1 0x90)) (some r a x (AtU1 0xf0 ∷ AtU1 0x80 ∷ [])) (f .1) in
-    let h = neither (isWanted r a x (AtU1 0xf0)) (some r a x (AtU1 0x80 ∷ [])) (g .1) in
-    rw (f .0, g .0, h .0, neither (isWanted r a x (AtU1 0x80)) false (h .1) .0)
-is-broken r a x (suc (suc (suc zero))) l c = apart (sym c)
-is-broken r a x (suc (suc (suc (suc zero)))) l c = rw (neither (isWanted r a x (AtU1 0xaa)) false c .0)
-is-broken r a x (suc (suc (suc (suc (suc zero))))) l c = rw (neither (isWanted r a x (AtU2 0x55)) false c .0)
-is-broken r a x (suc (suc (suc (suc (suc (suc zero)))))) l c =
-    let f = neither (isWanted r a x (At (r .«sector_code»))) (some r a x (At (r .«block_code») ∷ AtU1 0x10 ∷ [])) c in
-    let g = neither (isWanted r a x (At (r .«block_code»))) (some r a x (AtU1 0x10 ∷ [])) (f .1) in
-    rw (f .0, g .0, neither (isWanted r a x (AtU1 0x10)) false (g .1) .0)
-is-broken r a x (suc (suc (suc (suc (suc (suc (suc s))))))) l c = absurd (omega arith)
-
--- no erase code is F0H
-unlike : (part : ℕ) → partRefusal part ≡ 0 → (f : Row → ℕ) → every (λ (l : Line). pick (eqb (f (rowFrom l)) 0xf0) false true) lines ≡ true → f (rowOf part) ≡ 0xf0 → ⊥
-unfolding rowOf
-unlike part k f e = eqb-false _ _ (unless _ true (at (λ (l : Line). pick (eqb (f (rowFrom l)) 0xf0) false true) lines noLine e part (omega (arith, known part k))) .0)
-
--- F0H is no other byte
-module _ (r : Row) (a x : ℕ) (f : x % 256 ≡ 0xf0) (n : ℕ) (u : eqb 0xf0 n ≡ false) where
-  not-at-u1 : isWanted r a x (AtU1 n) ≡ false
-  not-at-u1 = rw (f, u) (pick-same (eqb (a % r .compared) (r .u1)) false)
-
-  not-at-u2 : isWanted r a x (AtU2 n) ≡ false
-  not-at-u2 = rw (f, u) (pick-same (eqb (a % r .compared) (r .u2)) false)
-
-  not-at : isWanted r a x (At n) ≡ false
-  not-at = rw (f, u)
-
--- so it returns to read mode, as a command or as a broken write
-resets : (part : ℕ) → partRefusal part ≡ 0 → (a x s : ℕ) → s ≤ 6 → (s ≡ 3 → ⊥) → x % 256 ≡ 0xf0 → effectOf (rowOf part) s a x ≡ broken
-unfolding effectOf
-resets part k a x zero l n f = rw (not-at-u1 (rowOf part) a x f 0xaa refl)
-resets part k a x (suc zero) l n f = rw (not-at-u2 (rowOf part) a x f 0x55 refl)
-resets part k a x (suc (suc zero)) l n f =
-    let r = rowOf part in
-    rw (not-at-u1 r a x f 0xa0 refl, not-at-u1 r a x f 0x80 refl, not-at-u1 r a x f 0x90 refl) (pick-same (isWanted r a x (AtU1 0xf0)) broken)
-resets part k a x (suc (suc (suc zero))) l n f = absurd (n refl)
-resets part k a x (suc (suc (suc (suc zero)))) l n f = rw (not-at-u1 (rowOf part) a x f 0xaa refl)
-resets part k a x (suc (suc (suc (suc (suc zero))))) l n f = rw (not-at-u2 (rowOf part) a x f 0x55 refl)
-resets part k a x (suc (suc (suc (suc (suc (suc zero)))))) l n f =
-    let r = rowOf part in
-    let sector = ne-eqb 0xf0 (r .«sector_code») (λ e. unlike part k (λ (r : Row). r .«sector_code») refl (sym e)) in
-    let block = ne-eqb 0xf0 (r .«block_code») (λ e. unlike part k (λ (r : Row). r .«block_code») refl (sym e)) in
-    rw (not-at r a x f (r .«sector_code») sector, not-at r a x f (r .«block_code») block, not-at-u1 r a x f 0x10 refl)
-resets part k a x (suc (suc (suc (suc (suc (suc (suc s))))))) l n f = absurd (omega arith)
-
--- the block code on a part without blocks
-no-blocks : (part : ℕ) → partRefusal part ≡ 0 → (a x : ℕ) → hasBlocks (rowOf part) ≡ false → x % 256 ≡ rowOf part .«block_code» → effectOf (rowOf part) 6 a x ≡ broken
-unfolding effectOf
-no-blocks part k a x h f =
-    let r = rowOf part in
-    rw (f, ne-eqb (r .«block_code») (r .«sector_code») (λ e. codes-differ part k (sym e)), eq-eqb (r .«block_code») (r .«block_code») refl, h)
-
 -- on the lent cells of a known part, at rest, at any stage
 module _ (part : ℕ) (cells : List ℕ) (known : partRefusal part ≡ 0) (whole : length cells ≡ rowOf part .cells) (a : ℕ) (there : a < rowOf part .cells)
     (k : Core) (s e : ℕ) (wp : Bool) (x : ℕ) (b : busy k ≡ false) (le : s ≤ 6) (fits : fitsIn (rowOf part .width) x ≡ true) where
@@ -233,7 +147,7 @@ start-ends-modes part h c o os =
     r = rowOf part
 
     s : Chip
-    s = passed r h (c .elapsed)
+    s = afterTime r h (c .elapsed)
 
     Ends : Device → List Operation → Type 0
     Ends d ops = ops ≡ o ∷ os → d ≡ device (core ReadMode o) 0

@@ -30,16 +30,16 @@ use Rattle.chip.specs.declared.cycle.Action.{Action}
 use Rattle.chip.specs.declared.cycle.Action.the-variants.{Read, Write, Idle, Cut}
 use Rattle.chip.specs.declared.cycle.Cycle.{Cycle}
 use Rattle.chip.specs.declared.cycle.Shown.{Shown}
-use Rattle.chip.specs.declared.device.Mode.the-variants.{ReadMode}
-use Rattle.chip.specs.declared.sequence.Effect.{Effect}
+use Rattle.commands.specs.declared.effect.Mode.the-variants.{ReadMode}
+use Rattle.commands.specs.declared.effect.Effect.{Effect}
 use Rattle.chip.specs.Device.{busy, inMode, busyWith}
 use Rattle.chip.specs.Operation.{cellsOf, over, finished, scarred, completeOn, cutOn}
 use Rattle.chip.specs.Sequence.{ignored, newOperation, afterEffect, writtenOf}
-use Rattle.chip.specs.Cycle.{Chip, Settled, Outcome, settledOf, passed, readOf, cutOf, actedOf, acceptedOf, cycleRefusal, cycleOf}
+use Rattle.chip.specs.Cycle.{Chip, Settled, Outcome, settledOf, afterTime, readOf, cutOf, actedOf, acceptedOf, cycleRefusal, cycleOf}
 use Rattle.chip.specs.Trace.{after, play, uncutAction, uncut}
 use Rattle.chip.proofs.Accepted.{Accepted, accepted, pending, ranges}
-use Rattle.chip.proofs.Settled.{passed-range}
-use Rattle.chip.proofs.Effects.{effect-is}
+use Rattle.chip.proofs.Settled.{after-time-range}
+use Rattle.commands.proofs.Effects.{effect-is}
 
 -- ---- f at each cell of a range, seen at one cell of the whole
 module _ (f : ℕ → ℕ) where
@@ -133,12 +133,12 @@ stores-values part h c =
     w = r .width
 
     s : Chip
-    s = passed r h (c .elapsed)
+    s = afterTime r h (c .elapsed)
 
     stores : Accepted part (length (h .cells)) (h .device) (c .action) → KeptOrFits w (h .cells) (actedOf r s (c .wp) (c .action) .cells)
     stores t =
         then w (h .cells) (s .cells) (actedOf r s (c .wp) (c .action) .cells) (time-stores r (h .cells) (h .device .core) (c .elapsed) (λ b. pending r (h .device .core) (ranges r (h .device) (t .state) .1) b .fits))
-        (acts-store r s (c .wp) (c .action) (λ b. pending r (s .device .core) (ranges r (s .device) (passed-range r h (c .elapsed) (t .state)) .1) b .fits))
+        (acts-store r s (c .wp) (c .action) (λ b. pending r (s .device .core) (ranges r (s .device) (after-time-range r h (c .elapsed) (t .state)) .1) b .fits))
 
 -- ---- what WP# low protects
 -- a cell that a range does not hold lies outside it
@@ -266,7 +266,7 @@ module _ (part : ℕ) (known : partRefusal part ≡ 0) (i : ℕ) (protected : ho
   cycle-safe h c low u s =
       split (λ (o : Outcome). Safe (h .cells) (o .cells) (o .reply .device .core)) (eqb (cycleRefusal part (length (h .cells)) (h .device) (c .action)) 0) _ _
       (λ _. let t = time-safe (h .cells) (h .device .core) (c .elapsed) s in
-      let a = acts-safe (passed r h (c .elapsed)) (c .action) u (t .1) in
+      let a = acts-safe (afterTime r h (c .elapsed)) (c .action) u (t .1) in
       rw low (a .0 ∙ t .0, a .1)) (λ _. (refl, s))
 
   -- WP# low protects: over any list of cycles with WP# low and without a cut, from a device on which nothing is pending, a protected
