@@ -44,20 +44,20 @@ neither false c e = (refl, e)
 -- a write that does not continue is broken
 pub is-broken : (r : Row) (a x s : ℕ) → s ≤ 6 → continues r s a x ≡ false → effectOf r s a x ≡ broken
 unfolding effectOf
-is-broken r a x zero l c = rw (neither (isWanted r a x (AtU1 0xaa)) false c .0)
-is-broken r a x (suc zero) l c = rw (neither (isWanted r a x (AtU2 0x55)) false c .0)
+is-broken r a x zero l c = simp (neither (isWanted r a x (AtU1 0xaa)) false c .0)
+is-broken r a x (suc zero) l c = simp (neither (isWanted r a x (AtU2 0x55)) false c .0)
 is-broken r a x (suc (suc zero)) l c =
     let f = neither (isWanted r a x (AtU1 0xa0)) (some r a x (AtU1 0x90 ∷ AtU1 0xf0 ∷ AtU1 0x80 ∷ [])) c in
     let g = neither (isWanted r a x (AtU1 0x90)) (some r a x (AtU1 0xf0 ∷ AtU1 0x80 ∷ [])) (f .1) in
     let h = neither (isWanted r a x (AtU1 0xf0)) (some r a x (AtU1 0x80 ∷ [])) (g .1) in
-    rw (f .0, g .0, h .0, neither (isWanted r a x (AtU1 0x80)) false (h .1) .0)
+    simp (f .0, g .0, h .0, neither (isWanted r a x (AtU1 0x80)) false (h .1) .0)
 is-broken r a x (suc (suc (suc zero))) l c = apart (sym c)
-is-broken r a x (suc (suc (suc (suc zero)))) l c = rw (neither (isWanted r a x (AtU1 0xaa)) false c .0)
-is-broken r a x (suc (suc (suc (suc (suc zero))))) l c = rw (neither (isWanted r a x (AtU2 0x55)) false c .0)
+is-broken r a x (suc (suc (suc (suc zero)))) l c = simp (neither (isWanted r a x (AtU1 0xaa)) false c .0)
+is-broken r a x (suc (suc (suc (suc (suc zero))))) l c = simp (neither (isWanted r a x (AtU2 0x55)) false c .0)
 is-broken r a x (suc (suc (suc (suc (suc (suc zero)))))) l c =
     let f = neither (isWanted r a x (At (r .«sector_code»))) (some r a x (At (r .«block_code») ∷ AtU1 0x10 ∷ [])) c in
     let g = neither (isWanted r a x (At (r .«block_code»))) (some r a x (AtU1 0x10 ∷ [])) (f .1) in
-    rw (f .0, g .0, neither (isWanted r a x (AtU1 0x10)) false (g .1) .0)
+    simp (f .0, g .0, neither (isWanted r a x (AtU1 0x10)) false (g .1) .0)
 is-broken r a x (suc (suc (suc (suc (suc (suc (suc s))))))) l c = absurd (omega arith)
 
 -- no erase code is F0H
@@ -79,19 +79,19 @@ module _ (r : Row) (a x : ℕ) (f : x % 256 ≡ 0xf0) (n : ℕ) (u : eqb 0xf0 n 
 -- so it returns to read mode, as a command or as a broken write
 pub resets : (part : ℕ) → partRefusal part ≡ 0 → (a x s : ℕ) → s ≤ 6 → (s ≡ 3 → ⊥) → x % 256 ≡ 0xf0 → effectOf (rowOf part) s a x ≡ broken
 unfolding effectOf
-resets part k a x zero l n f = rw (not-at-u1 (rowOf part) a x f 0xaa refl)
-resets part k a x (suc zero) l n f = rw (not-at-u2 (rowOf part) a x f 0x55 refl)
+resets part k a x zero l n f = simp (not-at-u1 (rowOf part) a x f 0xaa refl)
+resets part k a x (suc zero) l n f = simp (not-at-u2 (rowOf part) a x f 0x55 refl)
 resets part k a x (suc (suc zero)) l n f =
     let r = rowOf part in
-    rw (not-at-u1 r a x f 0xa0 refl, not-at-u1 r a x f 0x80 refl, not-at-u1 r a x f 0x90 refl) (pick-same (isWanted r a x (AtU1 0xf0)) broken)
+    simp (not-at-u1 r a x f 0xa0 refl, not-at-u1 r a x f 0x80 refl, not-at-u1 r a x f 0x90 refl) (pick-same (isWanted r a x (AtU1 0xf0)) broken)
 resets part k a x (suc (suc (suc zero))) l n f = absurd (n refl)
-resets part k a x (suc (suc (suc (suc zero)))) l n f = rw (not-at-u1 (rowOf part) a x f 0xaa refl)
-resets part k a x (suc (suc (suc (suc (suc zero))))) l n f = rw (not-at-u2 (rowOf part) a x f 0x55 refl)
+resets part k a x (suc (suc (suc (suc zero)))) l n f = simp (not-at-u1 (rowOf part) a x f 0xaa refl)
+resets part k a x (suc (suc (suc (suc (suc zero))))) l n f = simp (not-at-u2 (rowOf part) a x f 0x55 refl)
 resets part k a x (suc (suc (suc (suc (suc (suc zero)))))) l n f =
     let r = rowOf part in
     let sector = ne-eqb 0xf0 (r .«sector_code») (λ e. unlike part k (λ (r : Row). r .«sector_code») refl (sym e)) in
     let block = ne-eqb 0xf0 (r .«block_code») (λ e. unlike part k (λ (r : Row). r .«block_code») refl (sym e)) in
-    rw (not-at r a x f (r .«sector_code») sector, not-at r a x f (r .«block_code») block, not-at-u1 r a x f 0x10 refl)
+    simp (not-at r a x f (r .«sector_code») sector, not-at r a x f (r .«block_code») block, not-at-u1 r a x f 0x10 refl)
 resets part k a x (suc (suc (suc (suc (suc (suc (suc s))))))) l n f = absurd (omega arith)
 
 -- the block code on a part without blocks
@@ -99,4 +99,4 @@ pub no-blocks : (part : ℕ) → partRefusal part ≡ 0 → (a x : ℕ) → hasB
 unfolding effectOf
 no-blocks part k a x h f =
     let r = rowOf part in
-    rw (f, ne-eqb (r .«block_code») (r .«sector_code») (λ e. codes-differ part k (sym e)), eq-eqb (r .«block_code») (r .«block_code») refl, h)
+    simp (f, ne-eqb (r .«block_code») (r .«sector_code») (λ e. codes-differ part k (sym e)), eq-eqb (r .«block_code») (r .«block_code») refl, h)

@@ -86,6 +86,9 @@ fn third_write(row: Row, a: u32, x: u16) -> Effect
     if at_u1(row, a, x, 0x90) {
         return Effect::Enters(Mode::Identification);
     }
+    if at_u1(row, a, x, 0xf0) {
+        return Effect::Enters(Mode::ReadMode);
+    }
     BROKEN
 }
 
