@@ -22,6 +22,7 @@ unique =
       protected-range = parts.protected-range-unique;
       time = parts.time-unique;
       has-command = parts.has-command-unique;
+      is-interval = parts.is-interval-unique;
       rounded-up = parts.rounded-up-unique;
       fresh = chip.fresh-unique;
       bus-cycle = chip.bus-cycle-unique;
