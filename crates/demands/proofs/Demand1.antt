@@ -27,10 +27,9 @@ use Rattle.parts.proofs.part_figure.Kinds as figure-kinds
 use Rattle.parts.proofs.part_figure.Reads as figure-reads
 use Rattle.parts.proofs.Every.{split}
 use Rattle.chip.specs.declared.device.Device.{Device}
-use Rattle.chip.specs.declared.cycle.Action.{Action}
-use Rattle.chip.specs.declared.cycle.Action.the-variants.{Read, Write, Idle, Cut}
 use Rattle.chip.specs.declared.cycle.Cycle.{Cycle}
-use Rattle.chip.specs.Cycle.{Chip, chip, Outcome, reply, cycleRefusal, afterTime, actedOf, acceptedOf, cycleOf}
+use Rattle.chip.specs.Cycle.{chip, Outcome, reply, cycleRefusal, afterTime, acceptedOf, cycleOf}
+use Rattle.chip.proofs.Cases.{acted-answers}
 use Rattle.chip.proofs.bus_cycle.Kinds as bus-kinds
 use Rattle.chip.proofs.bus_cycle.Reads as bus-reads
 use Rattle.driver.specs.declared.machine.Started.{Started}
@@ -87,12 +86,6 @@ by-test answer n good bad g b = (by (eqb n 0) refl, λ e. rw (ne-eqb n 0 e))
     by false t = b
 
 -- ---- one bus cycle: 1, 2, 5, 3 (read or write), 4 (write)
-acted-answers : (r : Row) (h : Chip) (wp : Bool) (a : Action) → actedOf r h wp a .reply .answer ≡ 0
-acted-answers r h wp (Read a) = refl
-acted-answers r h wp (Write a x) = refl
-acted-answers r h wp Idle = refl
-acted-answers r h wp (Cut c) = refl
-
 module _ (κs : Lfts 1) (a : Dens κs bus-kinds.ps) (x : resT bus-kinds.r κs .Denot) (s : AtExit (endedOf 1 bus-kinds.ps bus-kinds.r) κs) (promise : bus-reads.Post κs a x s) where
   abbrev part : ℕ
   part = a .0
