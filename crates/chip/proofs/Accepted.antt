@@ -67,9 +67,9 @@ pub read-mode : (m : Mode) → reads m ≡ true → m ≡ ReadMode
 read-mode ReadMode e = refl
 read-mode Identification e = apart e
 
-pub pending : (r : Row) (k : Core) → coreInRange r k ≡ true → busy k ≡ true → Valid r k
+pub busy-valid : (r : Row) (k : Core) → coreInRange r k ≡ true → busy k ≡ true → Valid r k
 unfolding coreInRange validOperation
-pending r k e b =
+busy-valid r k e b =
     let g = both _ _ (given (busy k) (pick (reads (k .mode)) (validOperation r (k .running)) false) b e) in
     let h = both _ _ (g .1) in
     let i = unless _ _ (h .1) in
@@ -125,4 +125,4 @@ inside-cells n k o c t =
 
 pub runs-inside : (n : ℕ) → partRefusal n ≡ 0 → (k : Core) (m : ℕ) → coreInRange (rowOf n) k ≡ true → m ≡ rowOf n .cells → RunsInside (rowOf n) k m
 runs-inside n known k m e w =
-    record { inside = λ b. let v = pending (rowOf n) k e b in omega (arith, inside-cells n known (k .running) (v .command) (v .there)) }
+    record { inside = λ b. let v = busy-valid (rowOf n) k e b in omega (arith, inside-cells n known (k .running) (v .command) (v .there)) }

@@ -1,6 +1,6 @@
 -- What a cycle does, case by case: callers cite these laws and not the definition's text.
 use Prim.Native.Nat.{ℕ, _-_, _≤_, _<_}
-use mathlib.Core.Path.{_≡_, _∙_}
+use mathlib.Core.Path.{_≡_, refl, _∙_}
 use mathlib.Core.Bool.{Bool, true, false}
 use mathlib.Core.List.{List}
 use native.Mathlib.Omega.{arith}
@@ -11,13 +11,14 @@ use Rattle.parts.specs.Table.{rowOf, partRefusal}
 use Rattle.parts.specs.declared.table.Row.{Row}
 use Rattle.chip.specs.declared.device.Core.{Core}
 use Rattle.chip.specs.declared.device.Device.{Device}
-use Rattle.chip.specs.declared.cycle.Action.the-variants.{Read, Write}
+use Rattle.chip.specs.declared.cycle.Action.{Action}
+use Rattle.chip.specs.declared.cycle.Action.the-variants.{Read, Write, Idle, Cut}
 use Rattle.chip.specs.declared.cycle.Cycle.{Cycle}
 use Rattle.chip.specs.Device.{withLeft, toggled, withRunning, atRest, busy, device, coreInRange, coreIdle}
 use Rattle.chip.specs.Operation.{completeOn}
 use Rattle.commands.specs.Commands.{effectOf}
 use Rattle.chip.specs.Sequence.{afterEffect, writtenOf}
-use Rattle.chip.specs.Cycle.{chip, cycle, outcome, reply, settled, settledOf, status, readOf, actionRefusal, cycleRefusal, acceptedOf, cycleOf}
+use Rattle.chip.specs.Cycle.{Chip, chip, cycle, outcome, reply, settled, settledOf, status, readOf, actedOf, actionRefusal, cycleRefusal, acceptedOf, cycleOf}
 use Rattle.chip.specs.Trace.{after, effectStarts, startedBy}
 use Rattle.chip.proofs.Accepted.{Accepted, accepting, Valid, valid-range, rest-range, in-range, stage-none, stage-rests}
 use Rattle.chip.proofs.Idle.{idle-rests, idle-reads, idle-range}
@@ -32,6 +33,13 @@ pub refused-cycle : (part : ℕ) (cells : List ℕ) (d : Device) (c : Cycle) →
     → cycleOf part cells d c ≡ record { cells = cells; reply = reply (cycleRefusal part (length cells) d (c .action)) 0 d }
 unfolding cycleOf
 refused-cycle part cells d c h = rw (ne-eqb (cycleRefusal part (length cells) d (c .action)) 0 h)
+
+-- a cycle that is not refused answers 0
+pub acted-answers : (r : Row) (h : Chip) (wp : Bool) (a : Action) → actedOf r h wp a .reply .answer ≡ 0
+acted-answers r h wp (Read a) = refl
+acted-answers r h wp (Write a x) = refl
+acted-answers r h wp Idle = refl
+acted-answers r h wp (Cut c) = refl
 
 -- ---- time
 module _ (r : Row) (cells : List ℕ) (k : Core) (e : ℕ) where

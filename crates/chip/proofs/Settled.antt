@@ -21,7 +21,7 @@ use Rattle.chip.specs.Cycle.{Chip, chip, reply, Settled, settledOf, afte
 use Rattle.chip.specs.Needs.{InWords, RunsInside}
 use Rattle.chip.proofs.Over.{over-length}
 use Rattle.chip.proofs.Cases.{refused-cycle}
-use Rattle.chip.proofs.Accepted.{accepted, pending, valid-range, rest-range, in-range, ranges, stage-none, stage-busy, in-words, runs-inside}
+use Rattle.chip.proofs.Accepted.{accepted, busy-valid, valid-range, rest-range, in-range, ranges, stage-none, stage-busy, in-words, runs-inside}
 
 module _ (r : Row) (o : Operation) (cells : List ℕ) (h : cellsOf r o .first + cellsOf r o .count ≤ length cells) where
   pub complete-length : length (completeOn r o cells) ≡ length cells
@@ -44,7 +44,7 @@ pub after-time-range : (r : Row) (h : Chip) (e : ℕ) → deviceInRange r (h .de
 unfolding settledOf
 after-time-range r h e i =
     split InRange (busy k) _ _
-    (λ b. let v = pending r k (w .1) b in
+    (λ b. let v = busy-valid r k (w .1) b in
     let none : h .device .stage ≡ 0 = stage-busy k (h .device .stage) (w .0) b in
     rw none
     (split Begun (ltb e (k .running .left)) _ _

@@ -1,6 +1,6 @@
 -- The operations that cycles start: the part's, in the order of the cycles; none by a read.
 use Prim.Native.Nat.{ℕ, zero, suc, _<_}
-use mathlib.Core.Path.{_≡_, refl, sym, ap, _∙_}
+use mathlib.Core.Path.{_≡_, refl, sym, ap, ap₂, _∙_}
 use mathlib.Core.Bool.{Bool, true}
 use mathlib.Core.List.{List, [], _∷_, _++_, append-assoc}
 use borrow.Author.Tests.{eqb-true}
@@ -80,6 +80,25 @@ reads-start part (suc n) e wp a cs none h = rw (read-starts part h e wp a) (read
 
 pub one-read-starts : (part e : ℕ) (wp : Bool) (a : ℕ) (h : Chip) → startedIn part h (cycle e wp (Read a) ∷ []) ≡ []
 one-read-starts part e wp a h = rw (read-starts part h e wp a)
+
+-- ---- what cycles lead to: the chip they leave, and the operations they start
+pub record Moves (part : ℕ) (h : Chip) (c : Cycle) (h′ : Chip) (os : List Operation) : Type 0 where
+  pub left : after part h c ≡ h′
+  pub starts : startedBy part h c ≡ os
+
+pub record Leads (part : ℕ) (h : Chip) (cs : List Cycle) (h′ : Chip) (os : List Operation) : Type 0 where
+  pub played : play part h cs ≡ h′
+  pub begun : startedIn part h cs ≡ os
+
+pub stays : (part : ℕ) (h : Chip) → Leads part h [] h []
+stays part h = record { played = refl; begun = refl }
+
+pub then : {part : ℕ} {h h₁ h₂ : Chip} {c : Cycle} {cs : List Cycle} {os ps : List Operation} → Moves part h c h₁ os → Leads part h₁ cs h₂ ps → Leads part h (c ∷ cs) h₂ (os ++ ps)
+then {part} {h} {h₁} {h₂} {c} {cs} m l =
+    record {
+      played = ap (λ (h : Chip). play part h cs) (m .left) ∙ l .played;
+      begun = ap₂ {A = List Operation} {B = List Operation} {C = List Operation} (λ a b. a ++ b) (m .starts) (ap (λ (h : Chip). startedIn part h cs) (m .left) ∙ l .begun);
+    }
 
 -- ---- no cut
 pub uncut-append : (cs ds : List Cycle) → uncut cs ≡ true → uncut ds ≡ true → uncut (cs ++ ds) ≡ true

@@ -15,9 +15,8 @@ use Rattle.parts.specs.declared.table.Row.{Row}
 use Rattle.parts.specs.declared.figure.Figure.{Figure}
 use Rattle.parts.specs.declared.table.Found.{Found}
 use Rattle.parts.proofs.Every.{split}
-use Rattle.chip.specs.declared.cycle.Action.{Action}
-use Rattle.chip.specs.declared.cycle.Action.the-variants.{Read, Write, Idle, Cut}
-use Rattle.chip.specs.Cycle.{Chip, chip, Outcome, afterTime, actedOf, acceptedOf, cycleOf}
+use Rattle.chip.specs.Cycle.{chip, Outcome, afterTime, acceptedOf, cycleOf}
+use Rattle.chip.proofs.Cases.{acted-answers}
 use Rattle.driver.specs.declared.machine.Started.{Started}
 use Rattle.driver.specs.declared.writes.Writes.{Writes}
 use Rattle.driver.specs.declared.writes.Kth.{Kth}
@@ -33,7 +32,7 @@ use Rattle.driver.proofs.Begins.{start-range}
 use Rattle.job.specs.Bill.{Loaded, Reported, loadOf, reportOf}
 use Rattle.jobfile.specs.declared.trailer.JobFile.{JobFile}
 use Rattle.jobfile.specs.JobFile.{malformed, trailerOf, refused, asked, jobOf}
-use Rattle.demands.specs.Calls.{BusCall, onBus, busRefusal, StepCall, toStep, refusedStart, toStart, refusedWrites, toWrite, kthAsked, refusedJob, toLoad, toLoadFirst, rowAsked, figureAsked, toRead}
+use Rattle.demands.specs.Calls.{BusCall, onBus, refusedCycle, StepCall, toStep, refusedStart, toStart, refusedWrites, toWrite, kthAsked, refusedJob, toLoad, toLoadFirst, rowAsked, figureAsked, toRead}
 use Rattle.demands.specs.Demand1.{Refuses, RefusesState, Demand1}
 
 -- one test decides: what is handed back where it passes answers 0
@@ -44,13 +43,6 @@ by-test answer n good bad g b = record { exactly = by (eqb n 0) refl; beside = �
     by : (t : Bool) → eqb n 0 ≡ t → answer (pick t good bad) ≡ n
     by true t = g ∙ sym (eqb-true n 0 t)
     by false t = b
-
--- ---- what an accepted bus cycle answers
-acted-answers : (r : Row) (h : Chip) (wp : Bool) (a : Action) → actedOf r h wp a .reply .answer ≡ 0
-acted-answers r h wp (Read a) = refl
-acted-answers r h wp (Write a x) = refl
-acted-answers r h wp Idle = refl
-acted-answers r h wp (Cut c) = refl
 
 -- ---- a start that names its first write
 starts-refuse : (part command address x p : ℕ)
@@ -128,7 +120,7 @@ demand-1 =
     record {
       bus-cycle-refuses = λ c. let g = onBus c in
           rw (c .promise .0, c .promise .1)
-          (by-test (λ (o : Outcome). o .reply .answer) (busRefusal g) _ _ (acted-answers _ (afterTime _ (chip (g .cells) (g .device)) (g .cycle .elapsed)) (g .cycle .wp) (g .cycle .action)) refl);
+          (by-test (λ (o : Outcome). o .reply .answer) (refusedCycle g) _ _ (acted-answers _ (afterTime _ (chip (g .cells) (g .device)) (g .cycle .elapsed)) (g .cycle .wp) (g .cycle .action)) refl);
       start-refuses = λ c. rw (c .promise) (by-test (λ (t : Started). t .answer) (refusedStart (toStart (c .given))) _ _ refl refl);
       start-writing-refuses = λ c. let g = toStart (c .given) in rw (c .promise) (starts-refuse (g .part) (g .command) (g .address) (g .word) (g .p));
       step-refuses = step-refuses;

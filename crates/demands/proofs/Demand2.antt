@@ -33,7 +33,7 @@ use Rattle.driver.specs.Machine.{addressOf, confirmAfter, bitSeven, bitWanted, 
 use Rattle.driver.specs.Talk.{writeCycles, shownAfter, Told, talk}
 use Rattle.driver.proofs.Asked.{asking, begun}
 use Rattle.driver.proofs.Theorems as Theorems
-use Rattle.demands.specs.Calls.{onBus, busRefusal, toWrite, ToStart, toStart, refusedStart, StepCall, toStep}
+use Rattle.demands.specs.Calls.{onBus, refusedCycle, toWrite, ToStart, toStart, refusedStart, StepCall, toStep}
 use Rattle.demands.specs.Demand2.{IdleUnprotected, operationAsked, polls, noRead, Demand2}
 
 -- ---- a command's writes together
@@ -168,7 +168,7 @@ pub demand-2 : Demand2
 unfolding cycleOf acceptedOf
 demand-2 =
     record {
-      cycle-acts = λ c accepted. rw (c .promise .0, c .promise .1, eq-eqb (busRefusal (onBus c)) 0 accepted);
+      cycle-acts = λ c accepted. rw (c .promise .0, c .promise .1, eq-eqb (refusedCycle (onBus c)) 0 accepted);
       writes-run = λ c accepted cells d wp i. let g = toWrite c in
           rw (c .promise, places-are (g .part) (g .command) (g .address) (g .word) accepted)
           (Theorems.writes-start (g .part) (g .command) (g .address) (g .word) wp cells d accepted (i .whole) (i .rests) (i .heeded) .0);

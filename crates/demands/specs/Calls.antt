@@ -78,8 +78,8 @@ abbrev pub busLeft : BusCall → Outcome
 busLeft c = record { cells = c .ends .1 .0 .now; reply = c .back }
 
 -- its refusal, 0 for none: 1, 2, 5, 3 (read or write), 4 (write)
-abbrev pub busRefusal : OnBus → ℕ
-busRefusal g = cycleRefusal (g .part) (length (g .cells)) (g .device) (g .cycle .action)
+abbrev pub refusedCycle : OnBus → ℕ
+refusedCycle g = cycleRefusal (g .part) (length (g .cells)) (g .device) (g .cycle .action)
 
 -- ---- start(part, command, address, data, p); and start_writing of the same, which names the first write at once
 abbrev pub StartCall : Type 0

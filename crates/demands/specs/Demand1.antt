@@ -24,7 +24,7 @@ use Rattle.driver.specs.Machine.{noDriver, inRange, step}
 use Rattle.job.specs.Bill.{Loaded, Reported, refusedBill, refusedReport}
 use Rattle.jobfile.specs.declared.trailer.JobFile.{JobFile}
 use Rattle.jobfile.specs.JobFile.{malformed, refused}
-use Rattle.demands.specs.Calls.{BusCall, onBus, busLeft, busRefusal, StartCall, StartWritingCall, toStart, refusedStart, StepCall, toStep, WritesCall, toWrite, refusedWrites, KthCall, StationAddressCall, StationDataCall, StationWriteCall, kthAsked, refusedKth, LoadCall, LoadFirstCall, toLoad, toLoadFirst, loadLeft, loadFirstLeft, refusedJob, RowCall, rowAsked, FigureCall, StationFigureCall, StationFigureAnswerCall, figureAsked, refusedFigure, FileCall, toRead}
+use Rattle.demands.specs.Calls.{BusCall, onBus, busLeft, refusedCycle, StartCall, StartWritingCall, toStart, refusedStart, StepCall, toStep, WritesCall, toWrite, refusedWrites, KthCall, StationAddressCall, StationDataCall, StationWriteCall, kthAsked, refusedKth, LoadCall, LoadFirstCall, toLoad, toLoadFirst, loadLeft, loadFirstLeft, refusedJob, RowCall, rowAsked, FigureCall, StationFigureCall, StationFigureAnswerCall, figureAsked, refusedFigure, FileCall, toRead}
 
 -- a call answers n, and where n is a refusal hands back what it should
 pub record Refuses (A : Type 0) (answer n : ℕ) (back should : A) : Type 0 where
@@ -38,7 +38,7 @@ pub record RefusesState (d : Driver) (back : Step) : Type 0 where
 
 pub record Demand1 : Type 0 where
   -- A refused bus cycle answers its number, value 0 and the device as it came, and leaves the cells as they came.
-  pub bus-cycle-refuses : (c : BusCall) → let g = onBus c in let n = busRefusal g in
+  pub bus-cycle-refuses : (c : BusCall) → let g = onBus c in let n = refusedCycle g in
       Refuses Outcome (c .back .answer) n (busLeft c) (record { cells = g .cells; reply = reply n 0 (g .device) })
   -- A refused start answers its number and hands back an all-zero state.
   pub start-refuses : (c : StartCall) → let n = refusedStart (toStart (c .given)) in

@@ -24,7 +24,7 @@ use Rattle.driver.specs.Writes.{writeCount}
 use Rattle.driver.specs.Machine.{valueWanted, begun, moved, ended, stepOf}
 use Rattle.driver.specs.Talk.{writeCycles, operationCycles, operationOf, completed, shownAfter, Told, told, talk, heard}
 use Rattle.driver.proofs.Theorems.{Ended}
-use Rattle.demands.specs.Calls.{BusCall, onBus, busLeft, busRefusal, WritesCall, toWrite, refusedWrites, StartCall, ToStart, toStart, refusedStart, StepCall, toStep}
+use Rattle.demands.specs.Calls.{BusCall, onBus, busLeft, refusedCycle, WritesCall, toWrite, refusedWrites, StartCall, ToStart, toStart, refusedStart, StepCall, toStep}
 
 -- a chip of the part's number of cells that is idle, at a WP# level that does not protect what the command is aimed at
 pub record IdleUnprotected (part command address : ℕ) (cells : List ℕ) (d : Device) (wp : Bool) : Type 0 where
@@ -62,7 +62,7 @@ noRead Differs n = true
 pub record Demand2 : Type 0 where
   -- Of a bus cycle that is not refused, first time passes (`afterTime`), then the cycle acts (`actedOf`): that gives the
   -- value, the state and the cells.
-  pub cycle-acts : (c : BusCall) → let g = onBus c in busRefusal g ≡ 0
+  pub cycle-acts : (c : BusCall) → let g = onBus c in refusedCycle g ≡ 0
       → let r = rowOf (g .part) in
       busLeft c ≡ actedOf r (afterTime r (chip (g .cells) (g .device)) (g .cycle .elapsed)) (g .cycle .wp) (g .cycle .action)
   -- A command's writes, sent at 0 µs, leave the cells as they were and the device running the operation asked for, with its

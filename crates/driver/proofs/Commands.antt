@@ -1,8 +1,8 @@
 -- A command's writes on the model: each takes the sequence on, and the last one starts the operation.
 use Prim.Native.Nat.{ℕ, zero, suc, zero-le, _%_, _≤_, _<_}
-use mathlib.Core.Path.{_≡_, refl, sym, ap, ap₂, _∙_}
+use mathlib.Core.Path.{_≡_, refl, sym, _∙_}
 use mathlib.Core.Bool.{Bool, true, false}
-use mathlib.Core.List.{List, [], _∷_, _++_}
+use mathlib.Core.List.{List, [], _∷_}
 use native.Mathlib.Nat.{mod-eq-of-lt}
 use native.Mathlib.Omega.{arith}
 use borrow.Author.Tests.{ltb-false, eq-eqb, ne-eqb}
@@ -18,17 +18,15 @@ use Rattle.parts.specs.declared.table.Row.{Row}
 use Rattle.parts.proofs.Every.{unless, split}
 use Rattle.parts.proofs.Values.{lt-fits}
 use Rattle.parts.proofs.Sound.{width-least, codes-differ, sector-not-chip, block-not-chip, sector-byte, block-byte, u1-compared, u2-compared, compared-cells}
-use Rattle.chip.specs.declared.device.Operation.{Operation}
 use Rattle.chip.specs.declared.device.Core.{Core}
 use Rattle.commands.specs.declared.effect.Effect.the-variants.{Goes, Starts}
 use Rattle.chip.specs.declared.cycle.Action.the-variants.{Write as Writes}
-use Rattle.chip.specs.declared.cycle.Cycle.{Cycle}
 use Rattle.chip.specs.Device.{busyWith, busy, device}
 use Rattle.commands.specs.Commands.{effectOf}
 use Rattle.chip.specs.Sequence.{ignored, newOperation}
-use Rattle.chip.specs.Cycle.{cycle, Chip, chip}
-use Rattle.chip.specs.Trace.{after, play, startedBy, startedIn}
+use Rattle.chip.specs.Cycle.{cycle, chip}
 use Rattle.chip.proofs.Cases.{write-leaves, write-starts}
+use Rattle.chip.proofs.Started.{Moves, Leads, stays, then}
 use Rattle.commands.specs.declared.write.Write.{Write}
 use Rattle.driver.specs.Writes.{lastWrite, writesOf}
 use Rattle.driver.specs.Talk.{writeCycle, writeCycles, operationOf}
@@ -137,25 +135,6 @@ module _ (part : ℕ) (known : partRefusal part ≡ 0) (command a x : ℕ) (targ
     where
       Heeded : ℕ → Type 0
       Heeded k = ignored (rowOf part) wp k a ≡ false → ignored (rowOf part) wp k (lastWrite (rowOf part) k a x .address) ≡ false
-
--- ---- what cycles lead to: the chip they leave, and the operations they start
-pub record Moves (part : ℕ) (h : Chip) (c : Cycle) (h′ : Chip) (os : List Operation) : Type 0 where
-  pub left : after part h c ≡ h′
-  pub starts : startedBy part h c ≡ os
-
-pub record Leads (part : ℕ) (h : Chip) (cs : List Cycle) (h′ : Chip) (os : List Operation) : Type 0 where
-  pub played : play part h cs ≡ h′
-  pub begun : startedIn part h cs ≡ os
-
-stays : (part : ℕ) (h : Chip) → Leads part h [] h []
-stays part h = record { played = refl; begun = refl }
-
-then : {part : ℕ} {h h₁ h₂ : Chip} {c : Cycle} {cs : List Cycle} {os ps : List Operation} → Moves part h c h₁ os → Leads part h₁ cs h₂ ps → Leads part h (c ∷ cs) h₂ (os ++ ps)
-then {part} {h} {h₁} {h₂} {c} {cs} m l =
-    record {
-      played = ap (λ (h : Chip). play part h cs) (m .left) ∙ l .played;
-      begun = ap₂ {A = List Operation} {B = List Operation} {C = List Operation} (λ a b. a ++ b) (m .starts) (ap (λ (h : Chip). startedIn part h cs) (m .left) ∙ l .begun);
-    }
 
 -- ---- on the lent cells of a known part, with nothing running
 module _ (part : ℕ) (known : partRefusal part ≡ 0) (cells : List ℕ) (whole : length cells ≡ rowOf part .cells) (wp : Bool) (k : Core) (rest : busy k ≡ false) where

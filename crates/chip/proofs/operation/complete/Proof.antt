@@ -1,4 +1,4 @@
--- `chip::operation::complete` meets its contract.
+-- `chip::operation::complete` meets its contract. At each need t is where the kind was tested, b or a where the arguments stand.
 use Prim.Native.Nat.{_+_, _-_}
 use mathlib.Core.Path.{_≡_, ap, _∙_}
 use native.Mathlib.Omega.{arith}
@@ -13,28 +13,46 @@ use Rattle.chip.proofs.operation.complete.Statement.{statement}
 use Rattle.chip.proofs.operation.complete.Tie as tie
 
 slice-read-cells : tie.Need-slice-read-cells
-slice-read-cells c = program-there (c .before .before .before .before .before .args .row) (c .before .before .before .before .before .args .o) _ (c .before .before .if1 .taken) (c .before .before .before .before .before .pre .0)
+slice-read-cells c =
+    let t = c .before .before in
+    let b = t .before .before .before in
+    program-there (b .args .row) (b .args .o) _ (t .if1 .taken) (b .pre .0)
 
 slice-write-cells : tie.Need-slice-write-cells
-slice-write-cells c = program-there (c .before .before .before .before .before .before .args .row) (c .before .before .before .before .before .before .args .o) _ (c .before .before .before .if1 .taken) (c .before .before .before .before .before .before .pre .0)
+slice-write-cells c =
+    let t = c .before .before .before in
+    let b = t .before .before .before in
+    program-there (b .args .row) (b .args .o) _ (t .if1 .taken) (b .pre .0)
 
 returns : tie.Need-returns
 unfolding completeOn
-returns c = let g = c .before .before .before .before .before .before .args in
-    ap (set (g .cells .now) (g .o .address)) (finished-program (g .row) (g .o) (getD (g .cells .now) (g .o .address) 0) (c .before .before .before .if1 .taken))
-    ∙ stored (finished (g .row) (g .o)) (g .row) (g .o) (g .cells .now) (c .before .before .before .if1 .taken) (c .before .before .before .before .before .before .pre .0)
+returns c =
+    let t = c .before .before .before in
+    let b = t .before .before .before in
+    let g = b .args in
+    ap (set (g .cells .now) (g .o .address)) (finished-program (g .row) (g .o) (getD (g .cells .now) (g .o .address) 0) (t .if1 .taken))
+    ∙ stored (finished (g .row) (g .o)) (g .row) (g .o) (g .cells .now) (t .if1 .taken) (b .pre .0)
 
 part-fill-end : tie.Need-part-fill-end
-part-fill-end c = omega (arith, c .before .before .before .before .before .before .pre .0, ap (λ (s : Span). s .first) (c .before .before .cells-of .ensures), ap (λ (s : Span). s .count) (c .before .before .cells-of .ensures))
+part-fill-end c =
+    let s = c .before .before in
+    omega (arith, s .before .before .before .before .pre .0, ap (λ (s : Span). s .first) (s .cells-of .ensures), ap (λ (s : Span). s .count) (s .cells-of .ensures))
 
 returns-2 : tie.Need-returns-2
 unfolding completeOn
-returns-2 c = let g = c .before .before .before .before .before .before .before .before .before .before .before .args in
-    let s = c .before .before .before .before .before .before .before .cells-of .result in
+returns-2 c =
+    let f = c .before .before in
+    let b = f .before in
+    let p = b .before .before .before .before in
+    let t = p .before in
+    let a = t .before .before .before in
+    let g = a .args in
+    let s = p .cells-of .result in
     let k = s .first + s .count - s .first in
-    let b : c .before .before .before .blank .result ≡ blankOf (g .row .width) = c .before .before .before .blank .ensures ∙ blank-word _ (c .before .before .before .before .before .before .before .before .before .before .before .pre .1 .values) in
-    came-back (finished (g .row) (g .o)) (g .row) (g .o) (g .cells .now) (c .before .before .fill .last .0) s k (c .before .before .before .before .before .before .before .cells-of .ensures) (omega arith)
-    (c .before .before .fill .ensures ∙ map-same (λ x. c .before .before .before .blank .result) (finished (g .row) (g .o)) (λ x. b ∙ finished-erase (g .row) (g .o) x (c .before .before .before .before .before .before .before .before .if1 .left)) (take k (drop (s .first) (g .cells .now))))
+    let e : b .blank .result ≡ blankOf (g .row .width) = b .blank .ensures ∙ blank-word _ (a .pre .1 .values) in
+    came-back (finished (g .row) (g .o)) (g .row) (g .o) (g .cells .now) (f .fill .last .0) s k (p .cells-of .ensures) (omega arith)
+    (f .fill .ensures
+    ∙ map-same (λ x. b .blank .result) (finished (g .row) (g .o)) (λ x. e ∙ finished-erase (g .row) (g .o) x (t .if1 .left)) (take k (drop (s .first) (g .cells .now))))
 
 pub complete-spec : {M : Type 1} → statement M
 complete-spec =

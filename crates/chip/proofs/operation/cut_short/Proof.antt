@@ -1,4 +1,4 @@
--- `chip::operation::cut_short` meets its contract.
+-- `chip::operation::cut_short` meets its contract. At each need t is where the kind was tested, v the scar's value, b where the arguments stand.
 use Prim.Native.Nat.{_+_, _-_}
 use mathlib.Core.Path.{ap, _∙_}
 use native.Mathlib.Omega.{arith}
@@ -13,28 +13,47 @@ use Rattle.chip.proofs.operation.cut_short.Statement.{statement}
 use Rattle.chip.proofs.operation.cut_short.Tie as tie
 
 slice-read-cells : tie.Need-slice-read-cells
-slice-read-cells c = program-there (c .before .before .before .before .before .before .args .row) (c .before .before .before .before .before .before .args .o) _ (c .before .before .if1 .taken) (c .before .before .before .before .before .before .pre)
+slice-read-cells c =
+    let t = c .before .before in
+    let b = t .before .before .before .before in
+    program-there (b .args .row) (b .args .o) _ (t .if1 .taken) (b .pre)
 
 slice-write-cells : tie.Need-slice-write-cells
-slice-write-cells c = program-there (c .before .before .before .before .before .before .before .args .row) (c .before .before .before .before .before .before .before .args .o) _ (c .before .before .before .if1 .taken) (c .before .before .before .before .before .before .before .pre)
+slice-write-cells c =
+    let t = c .before .before .before in
+    let b = t .before .before .before .before in
+    program-there (b .args .row) (b .args .o) _ (t .if1 .taken) (b .pre)
 
 returns : tie.Need-returns
 unfolding cutOn
-returns c = let g = c .before .before .before .before .before .before .before .args in
-    ap (set (g .cells .now) (g .o .address)) (scarred-program (g .row) (g .o) (getD (g .cells .now) (g .o .address) 0) (g .scar) (c .before .before .before .before .before .value .result) (c .before .before .before .before .before .value .ensures) (c .before .before .before .if1 .taken))
-    ∙ stored (scarred (g .row) (g .o) (g .scar)) (g .row) (g .o) (g .cells .now) (c .before .before .before .if1 .taken) (c .before .before .before .before .before .before .before .pre)
+returns c =
+    let t = c .before .before .before in
+    let v = t .before .before in
+    let b = v .before .before in
+    let g = b .args in
+    ap (set (g .cells .now) (g .o .address)) (scarred-program (g .row) (g .o) (getD (g .cells .now) (g .o .address) 0) (g .scar) (v .value .result) (v .value .ensures) (t .if1 .taken))
+    ∙ stored (scarred (g .row) (g .o) (g .scar)) (g .row) (g .o) (g .cells .now) (t .if1 .taken) (b .pre)
 
 part-scar-each-end : tie.Need-part-scar-each-end
-part-scar-each-end c = omega (arith, c .before .before .before .before .before .before .before .pre, ap (λ (s : Span). s .first) (c .before .before .cells-of .ensures), ap (λ (s : Span). s .count) (c .before .before .cells-of .ensures))
+part-scar-each-end c =
+    let s = c .before .before in
+    omega (arith, s .before .before .before .before .before .pre, ap (λ (s : Span). s .first) (s .cells-of .ensures), ap (λ (s : Span). s .count) (s .cells-of .ensures))
 
 returns-2 : tie.Need-returns-2
 unfolding cutOn
-returns-2 c = let g = c .before .before .before .before .before .before .before .before .before .before .before .args in
-    let s = c .before .before .before .before .before .before .cells-of .result in
+returns-2 c =
+    let f = c .before .before in
+    let p = f .before .before .before .before in
+    let t = p .before in
+    let v = t .before .before in
+    let b = v .before .before in
+    let g = b .args in
+    let s = p .cells-of .result in
     let k = s .first + s .count - s .first in
-    came-back (scarred (g .row) (g .o) (g .scar)) (g .row) (g .o) (g .cells .now) (c .before .before .scar-each .last .0) s k (c .before .before .before .before .before .before .cells-of .ensures) (omega arith)
-    (c .before .before .scar-each .ensures
-    ∙ map-same (λ x. bitOr (valueOf (g .row .width) x) (c .before .before .before .before .before .before .before .before .before .value .result)) (scarred (g .row) (g .o) (g .scar)) (λ x. scarred-erase (g .row) (g .o) x (g .scar) (c .before .before .before .before .before .before .before .before .before .value .result) (c .before .before .before .before .before .before .before .before .before .value .ensures) (c .before .before .before .before .before .before .before .if1 .left)) (take k (drop (s .first) (g .cells .now))))
+    came-back (scarred (g .row) (g .o) (g .scar)) (g .row) (g .o) (g .cells .now) (f .scar-each .last .0) s k (p .cells-of .ensures) (omega arith)
+    (f .scar-each .ensures
+    ∙ map-same (λ x. bitOr (valueOf (g .row .width) x) (v .value .result)) (scarred (g .row) (g .o) (g .scar))
+    (λ x. scarred-erase (g .row) (g .o) x (g .scar) (v .value .result) (v .value .ensures) (t .if1 .left)) (take k (drop (s .first) (g .cells .now))))
 
 pub cut-short-spec : {M : Type 1} → statement M
 cut-short-spec =
