@@ -37,7 +37,7 @@ use Rattle.chip.specs.Operation.{cellsOf, over, finished, scarred, compl
 use Rattle.chip.specs.Sequence.{ignored, newOperation, afterEffect, writtenOf}
 use Rattle.chip.specs.Cycle.{Chip, Settled, Outcome, settledOf, afterTime, readOf, cutOf, actedOf, acceptedOf, cycleRefusal, cycleOf}
 use Rattle.chip.specs.Trace.{after, play, uncutAction, uncut}
-use Rattle.chip.proofs.Accepted.{Accepted, accepted, pending, ranges}
+use Rattle.chip.proofs.Accepted.{Accepted, accepted, busy-valid, ranges}
 use Rattle.chip.proofs.Settled.{after-time-range}
 use Rattle.commands.proofs.Effects.{effect-is}
 
@@ -137,8 +137,8 @@ stores-values part h c =
 
     stores : Accepted part (length (h .cells)) (h .device) (c .action) → KeptOrFits w (h .cells) (actedOf r s (c .wp) (c .action) .cells)
     stores t =
-        then w (h .cells) (s .cells) (actedOf r s (c .wp) (c .action) .cells) (time-stores r (h .cells) (h .device .core) (c .elapsed) (λ b. pending r (h .device .core) (ranges r (h .device) (t .state) .1) b .fits))
-        (acts-store r s (c .wp) (c .action) (λ b. pending r (s .device .core) (ranges r (s .device) (after-time-range r h (c .elapsed) (t .state)) .1) b .fits))
+        then w (h .cells) (s .cells) (actedOf r s (c .wp) (c .action) .cells) (time-stores r (h .cells) (h .device .core) (c .elapsed) (λ b. busy-valid r (h .device .core) (ranges r (h .device) (t .state) .1) b .fits))
+        (acts-store r s (c .wp) (c .action) (λ b. busy-valid r (s .device .core) (ranges r (s .device) (after-time-range r h (c .elapsed) (t .state)) .1) b .fits))
 
 -- ---- what WP# low protects
 -- a cell that a range does not hold lies outside it
