@@ -11,7 +11,7 @@ use Rattle.parts.specs.Pick.{pick}
 use Rattle.parts.specs.Width.{fitsIn, sectorSize}
 use Rattle.parts.specs.Table.{rowOf, partRefusal}
 use Rattle.parts.specs.Span.{holdsb, hasBlocks, sectorOf, blockOf, protectedOf}
-use Rattle.parts.specs.Time.{hasCommand, timeOf, roundedUp}
+use Rattle.parts.specs.Time.{hasCommand, timeOf, isInterval, roundedUp}
 use Rattle.parts.proofs.Every.{every, both}
 use Rattle.chip.specs.declared.device.Device.{Device}
 use Rattle.chip.specs.declared.cycle.Cycle.{Cycle}
@@ -25,7 +25,7 @@ use Rattle.driver.specs.Writes.{lastWrite}
 use Rattle.job.specs.Total.{totalOf}
 use Rattle.job.specs.Refusal.{fitAll, meets, protectionRefusal, rangeRefusal, jobRefusal}
 use Rattle.driver.specs.Machine.{confirmAfter}
-use Rattle.job.specs.Bill.{jobOf, fullOf, Loaded}
+use Rattle.job.specs.Bill.{jobFrom, fullOf, Loaded}
 use Rattle.invoice.proofs.Listed.{filling, looking}
 use Rattle.invoice.proofs.Loads.{deciding, decidingAll, reckoned, loads}
 use Rattle.demands.specs.Marked.{Cell, Case, Marked, Bus, Load, Ran, cases, holding, imageOf, blankBench, loadSixth, afterJobs, sameBill, further, ran, asSaid, before, holdsCase, holdsMarked}
@@ -72,7 +72,7 @@ on-case k =
 -- ---- jobs, reckoned from their operations
 -- a job of the bench, reckoned
 reckon : List ℕ → ℕ → Loaded
-reckon cells sixth = reckoned (jobOf 0 0 (length (imageOf sixth)) true 10) (imageOf sixth) cells
+reckon cells sixth = reckoned (jobFrom 0 0 (length (imageOf sixth)) true 10) (imageOf sixth) cells
 
 reckonAll : List ℕ → List ℕ → List ℕ
 reckonAll cells [] = cells
@@ -120,7 +120,7 @@ on-every [] c = refl
 on-every (k ∷ ks) c = let b = both (computes k) (every computes ks) c in rw (on-marked k (b .0)) (on-every ks (b .1))
 
 computed : every computes cases ≡ true
-unfolding computes holdsOn ranOn cycleOn reckon reckonAll accepts acceptsAll rowOf partRefusal fitsIn sectorSize holdsb hasBlocks sectorOf blockOf protectedOf hasCommand timeOf validOperation coreInRange stageInRange deviceInRange cellsOf completeOn cutOn effectOf ignored writtenOf actionRefusal cycleRefusal settledOf readOf cutOf acceptedOf lastWrite roundedUp fitAll meets protectionRefusal rangeRefusal jobRefusal totalOf confirmAfter fullOf filling looking deciding decidingAll
+unfolding computes holdsOn ranOn cycleOn reckon reckonAll accepts acceptsAll rowOf partRefusal fitsIn sectorSize holdsb hasBlocks sectorOf blockOf protectedOf hasCommand timeOf validOperation coreInRange stageInRange deviceInRange cellsOf completeOn cutOn effectOf ignored writtenOf actionRefusal cycleRefusal settledOf readOf cutOf acceptedOf lastWrite isInterval roundedUp fitAll meets protectionRefusal rangeRefusal jobRefusal totalOf confirmAfter fullOf filling looking deciding decidingAll
 computed = refl
 
 -- Every marked case of the list holds of the definitions that the promises of bus_cycle and load cite.

@@ -24,6 +24,7 @@ unique =
       protected-range = parts.protected-range-unique;
       time = parts.time-unique;
       has-command = parts.has-command-unique;
+      is-interval = parts.is-interval-unique;
       rounded-up = parts.rounded-up-unique;
       effect-of = commands.effect-of-unique;
       fresh = chip.fresh-unique;

@@ -33,6 +33,8 @@ use Rattle.parts.proofs.table.Row.time.Kinds as time-kinds
 use Rattle.parts.proofs.table.Row.time.Reads as time-reads
 use Rattle.parts.proofs.table.Row.has_command.Kinds as has-command-kinds
 use Rattle.parts.proofs.table.Row.has_command.Reads as has-command-reads
+use Rattle.parts.proofs.is_interval.Kinds as is-interval-kinds
+use Rattle.parts.proofs.is_interval.Reads as is-interval-reads
 use Rattle.parts.proofs.rounded_up.Kinds as rounded-up-kinds
 use Rattle.parts.proofs.rounded_up.Reads as rounded-up-reads
 use Rattle.commands.proofs.effect_of.Kinds as effect-of-kinds
@@ -98,6 +100,7 @@ pub record Unique : Type 0 where
   pub protected-range : OneResult 0 protected-range-kinds.ps protected-range-kinds.r protected-range-reads.Post
   pub time : OneResult 0 time-kinds.ps time-kinds.r time-reads.Post
   pub has-command : OneResult 0 has-command-kinds.ps has-command-kinds.r has-command-reads.Post
+  pub is-interval : OneResult 0 is-interval-kinds.ps is-interval-kinds.r is-interval-reads.Post
   pub rounded-up : OneResult 0 rounded-up-kinds.ps rounded-up-kinds.r rounded-up-reads.Post
   -- the table of commands
   pub effect-of : OneResult 0 effect-of-kinds.ps effect-of-kinds.r effect-of-reads.Post

@@ -3,7 +3,7 @@ use Prim.Native.Nat.{ℕ, _≤_, _<_}
 use mathlib.Core.Path.{_≡_, refl, ap, _∙_}
 use mathlib.Core.Bool.{true}
 use native.Mathlib.Omega.{arith}
-use borrow.Author.Tests.{ltb-true, ltb-false, lt-ltb, le-ltb, eqb-true, eqb-false, eq-eqb, ne-eqb}
+use borrow.Author.Tests.{ltb-true, lt-ltb, eqb-true, eqb-false, eq-eqb, ne-eqb}
 use lib.Dec.{eqb, ltb}
 use Rattle.parts.specs.Pick.{pick}
 use Rattle.parts.specs.Width.{fitsIn}
@@ -12,7 +12,8 @@ use Rattle.parts.specs.Time.{hasCommand}
 use Rattle.parts.specs.declared.table.Row.{Row}
 use Rattle.parts.specs.declared.table.Found.{Found}
 use Rattle.parts.proofs.Every.{split}
-use Rattle.parts.proofs.Refused.{zero-left, zero-right, none-first}
+use Rattle.parts.proofs.Rounding.{interval, interval-is}
+use Rattle.parts.proofs.Refused.{zero-left, none-first}
 use Rattle.driver.specs.Refusals.{dataRefusal, targetRefusal, commandOn, commandRefusal, startOn, startRefusal}
 
 -- ---- what is asked of a row
@@ -78,18 +79,11 @@ pub begun : (part command a x p : ℕ) → startRefusal part command a x p ≡ 0
 unfolding startRefusal
 begun part command a x p e =
     let f = none-first _ _ e in
-    let g = zero-right _ 9 _ (f .1) in
-    let h = zero-right _ 9 _ (g .1) in
-    record {
-      asked = record { known = f .0; target = target (rowOf part) command a x (h .1) };
-      some = above (eqb-false p 0 (g .0));
-      most = ltb-false 1000 p (h .0);
-    }
-  where
-    above : (p ≡ 0 → ⊥) → 0 < p
-    above n = omega arith
+    let g = zero-left _ _ 9 (f .1) in
+    let i = interval p (g .0) in
+    record { asked = record { known = f .0; target = target (rowOf part) command a x (g .1) }; some = i .0; most = i .1 }
 
 pub beginning : (part command a x p : ℕ) → Begun part command a x p → startRefusal part command a x p ≡ 0
 unfolding startRefusal
 beginning part command a x p w =
-    rw (w .asked .known, ne-eqb p 0 (λ z. omega (arith, w .some)), le-ltb 1000 p (w .most)) (targets (rowOf part) command a x (w .asked .target))
+    rw (w .asked .known, interval-is p (w .some) (w .most)) (targets (rowOf part) command a x (w .asked .target))

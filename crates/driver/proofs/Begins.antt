@@ -61,9 +61,9 @@ module _ (r : Row) (command a x : ℕ) (few : command ≤ 3) where
 
 -- ---- an accepted start
 module _ (part command a x p : ℕ) (accepted : startRefusal part command a x p ≡ 0) where
-  pub started : startOf part command a x p ≡ record { answer = 0; driver = begun part command a x p }
+  pub start-is : startOf part command a x p ≡ record { answer = 0; driver = begun part command a x p }
   unfolding startOf
-  started = rw accepted
+  start-is = rw accepted
 
   pub few-commands : command ≤ 3
   few-commands = command-le (rowOf part) command (asks.begun part command a x p accepted .asked .target .has)
@@ -96,7 +96,7 @@ module _ (part command a x p : ℕ) (s : Started) (f : Found) (e : s ≡ startOf
     accepts = sym (answered part command a x p) ∙ (sym (ap (λ (s : Started). s .answer) e) ∙ z)
 
     begins : s ≡ record { answer = 0; driver = begun part command a x p }
-    begins = e ∙ started part command a x p accepts
+    begins = e ∙ start-is part command a x p accepts
 
     row : f .row ≡ rowOf part
     row = ap (λ (f : Found). f .row) found

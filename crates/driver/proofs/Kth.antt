@@ -1,6 +1,6 @@
 -- The k-th write of a command, on a part that was looked up: n is the command's refusal, c the number of its writes.
 use Prim.Native.Nat.{ℕ, _≤_, _<_}
-use mathlib.Core.Path.{_≡_, sym, ap, _∙_}
+use mathlib.Core.Path.{_≡_, sym, ap}
 use native.Mathlib.Omega.{arith}
 use borrow.Author.Tests.{ne-eqb, lt-ltb, le-ltb}
 use Rattle.parts.specs.Names.{NO-ENTRY}

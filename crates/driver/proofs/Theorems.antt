@@ -36,7 +36,7 @@ use Rattle.driver.proofs.Named.{namedIn, namedBy, names, asCycle, cycle
 use Rattle.driver.proofs.Within.{over, stands}
 use Rattle.chip.proofs.Idle.{idle-is, idle-rests}
 use Rattle.driver.proofs.Commands.{command-leads}
-use Rattle.driver.proofs.Begins.{started, few-commands, kept-accepted, start-range, kept-address, kept-bit, kept-value, kept-last, kept-writes, kept-heeded}
+use Rattle.driver.proofs.Begins.{start-is, few-commands, kept-accepted, start-range, kept-address, kept-bit, kept-value, kept-last, kept-writes, kept-heeded}
 use Rattle.driver.proofs.Talks as Talks
 use Rattle.driver.proofs.Shown as Shown
 
@@ -104,7 +104,7 @@ module _ (part command address word p : ℕ) (wp : Bool) (cells : List ℕ) (d :
       let c = few-commands part command address word p accepted in
       let l = kept-last r command address word c in
       let a = kept-address command address in
-      rw (started part command address word p accepted, idles .0)
+      rw (start-is part command address word p accepted, idles .0)
       (rw (kept-writes r command address word c, l, a, kept-value r command word) at
       (Talks.performs (begun part command address word p) (kept-accepted part command address word p accepted) wp cells whole (d .core) (idles .1) (kept-heeded r command address word c wp ∙ heeded)
       n read enough (rw (l, a, kept-bit command word) (eq-eqb (bitSeven shown) (bitWanted command word) hit))))
@@ -116,7 +116,7 @@ module _ (part command address word p : ℕ) (wp : Bool) (cells : List ℕ) (d :
       let c = few-commands part command address word p accepted in
       let l = kept-last r command address word c in
       let a = kept-address command address in
-      rw (started part command address word p accepted, idles .0, append-nil (replicate (N * 2) (cycle p wp (Read at))))
+      rw (start-is part command address word p accepted, idles .0, append-nil (replicate (N * 2) (cycle p wp (Read at))))
       (rw (kept-writes r command address word c, l, a) at
       (Talks.gives-up (begun part command address word p) (kept-accepted part command address word p accepted) wp cells whole (d .core) (idles .1) (kept-heeded r command address word c wp ∙ heeded)
       n read enough (rw (l, a, kept-bit command word) (ne-eqb (bitSeven shown) (bitWanted command word) miss))))
@@ -182,7 +182,7 @@ module _ (part command address word p : ℕ) (accepted : startRefusal part comma
       → Ended part command address word p wp (heard wp f n (stepOf (startOf part command address word p .driver) read))
   unfolding mostPolls
   always-ends f read n enough =
-      rw (started part command address word p accepted)
+      rw (start-is part command address word p accepted)
       (let b = begun part command address word p in
       let i = start-range part command address word p accepted in
       let s = stepOf b read in

@@ -5,7 +5,7 @@ use Rattle.parts.specs.Names.{PROGRAM, CHIP, NO-ADDRESS, WIDE-DATA, BAD-INTERVA
 use Rattle.parts.specs.Pick.{_when_, _unless_, _else_, _orElse_}
 use Rattle.parts.specs.Width.{fitsIn}
 use Rattle.parts.specs.Table.{foundOf}
-use Rattle.parts.specs.Time.{hasCommand}
+use Rattle.parts.specs.Time.{hasCommand, isInterval}
 use Rattle.parts.specs.declared.table.Row.{Row}
 use Rattle.parts.specs.declared.table.Found.{Found}
 
@@ -33,8 +33,7 @@ commandRefusal part command a x = commandOn (foundOf part) command a x
 abbrev pub startOn : Found → ℕ → ℕ → ℕ → ℕ → ℕ
 startOn f command a x p =
     f .answer
-    orElse BAD-INTERVAL when eqb p 0
-    else BAD-INTERVAL when ltb 1000 p
+    orElse BAD-INTERVAL unless isInterval p
     else targetRefusal (f .row) command a x
 
 -- of a driver's start: 1, 10, 14, 3, 4

@@ -59,10 +59,7 @@ pub(crate) fn start_refusal(found: Found, command: u32, address: u32, data: u16,
     if 0 < answer {
         return answer;
     }
-    if p == 0 {
-        return BAD_INTERVAL;
-    }
-    if 1000 < p {
+    if !parts::is_interval(p) {
         return BAD_INTERVAL;
     }
     let row = found.row;

@@ -24,7 +24,7 @@ use Rattle.job.specs.declared.run.Tally.{Tally}
 use Rattle.job.specs.Refusal.{jobRefusal}
 use Rattle.job.specs.Run.{Sent, world, noneSent}
 use Rattle.job.specs.Sent.{sentOf}
-use Rattle.job.specs.Bill.{jobOf, fullOf, played, playedAll, loadOf, reportOf}
+use Rattle.job.specs.Bill.{jobFrom, fullOf, played, playedAll, loadOf, reportOf}
 use Rattle.job.specs.Formulas.{tallyOf}
 use Rattle.job.proofs.Accepts.{Passed, passed}
 use Rattle.job.proofs.Counts.{play-tally, play-sent, job-fair, time-most}
@@ -37,7 +37,7 @@ use Rattle.invoice.proofs.Least.{held, cells-left, image-left, others-l
 
 module _ (part : ℕ) (cells : List ℕ) (first : ℕ) (image : List ℕ) (wp : Bool) (p : ℕ) (accepted : jobRefusal part (length cells) first image wp p ≡ 0) where
   abbrev j : Job
-  j = jobOf part first (length image) wp p
+  j = jobFrom part first (length image) wp p
 
   pub ok : Passed part (length cells) first image wp p
   ok = passed part (length cells) first image wp p accepted

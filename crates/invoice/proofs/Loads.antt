@@ -17,7 +17,7 @@ use Rattle.job.specs.Refusal.{fitAll, jobRefusal}
 use Rattle.job.specs.Run.{tally}
 use Rattle.job.specs.Sent.{sentOf}
 use Rattle.job.specs.Formulas.{tallyOf, N}
-use Rattle.job.specs.Bill.{jobOf, billOf, Loaded, loadOf}
+use Rattle.job.specs.Bill.{jobFrom, billOf, Loaded, loadOf}
 use Rattle.job.proofs.Counts.{job-fair}
 use Rattle.driver.specs.Machine.{confirmAfter}
 use Rattle.least.specs.LeastTime.{rising}
@@ -63,7 +63,7 @@ reckoned j image cells = reckonedBy j cells (decidingAll j (j .first) (j .count 
 
 module _ (part : ℕ) (cells : List ℕ) (first : ℕ) (image : List ℕ) (wp : Bool) (p : ℕ) (accepted : jobRefusal part (length cells) first image wp p ≡ 0) where
   abbrev j : Job
-  j = jobOf part first (length image) wp p
+  j = jobFrom part first (length image) wp p
 
   abbrev os : List Operation
   os = operationsOf j image cells

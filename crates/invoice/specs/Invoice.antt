@@ -17,12 +17,12 @@ use Rattle.chip.specs.Trace.{play, startedIn, uncut as uncutAll}
 use Rattle.driver.specs.Reads.{Scans, Polls, Confirms, Place, placesIn, howMany}
 use Rattle.job.specs.Total.{sumOf}
 use Rattle.job.specs.Sent.{sentOf}
-use Rattle.job.specs.Bill.{jobOf, playedAll, Loaded, Reported}
+use Rattle.job.specs.Bill.{jobFrom, playedAll, Loaded, Reported}
 use Rattle.invoice.specs.Started.{cyclesIn, timeIn, many}
 
 -- the job's bus cycles
 abbrev pub sentCycles : ℕ → List ℕ → ℕ → List ℕ → Bool → ℕ → List Cycle
-sentCycles part cells first image wp p = cyclesIn (sentOf (jobOf part first (length image) wp p) image cells)
+sentCycles part cells first image wp p = cyclesIn (sentOf (jobFrom part first (length image) wp p) image cells)
 
 -- the operations that they start, from a fresh device on
 abbrev pub started : ℕ → List ℕ → ℕ → List ℕ → Bool → ℕ → List Operation

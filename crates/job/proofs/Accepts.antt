@@ -4,7 +4,7 @@ use mathlib.Core.Path.{_≡_, refl, sym}
 use mathlib.Core.Bool.{Bool, true, false}
 use mathlib.Core.List.{List}
 use native.Mathlib.Omega.{arith}
-use borrow.Author.Tests.{ltb-false, leb-true, eqb-true, eqb-false, lt-ltb, ne-eqb}
+use borrow.Author.Tests.{ltb-false, leb-true, eqb-true, lt-ltb, ne-eqb}
 use lib.Dec.{eqb}
 use lib.ListN.{length}
 use Rattle.parts.specs.Width.{sectorSize}
@@ -13,11 +13,12 @@ use Rattle.parts.specs.Span.{holdsb, protectedOf}
 use Rattle.parts.specs.declared.span.Span.{Span}
 use Rattle.parts.specs.declared.table.Row.{Row}
 use Rattle.parts.proofs.Every.{apart, split}
+use Rattle.parts.proofs.Rounding.{interval}
 use Rattle.parts.proofs.Refused.{zero-left, zero-right, none-first}
 use Rattle.parts.proofs.Ranges.{holds-bounds}
 use Rattle.chip.specs.Sequence.{ignored}
 use Rattle.job.specs.Refusal.{meets, protectionRefusal, rangeRefusal, jobRefusal}
-use Rattle.job.specs.Bill.{jobOf}
+use Rattle.job.specs.Bill.{jobFrom}
 use Rattle.job.proofs.AcceptedJob.{AcceptedJob}
 
 -- a range that holds none of a span's cells: no address of it is in the span
@@ -46,20 +47,19 @@ sector-most w = split (λ (n : ℕ). n ≤ 4096) (eqb w 8) 4096 2048 (λ _. omeg
 -- ---- the refusals, one by one
 pub record Passed (part lent first : ℕ) (image : List ℕ) (wp : Bool) (p : ℕ) : Type 0 where
   pub whole : lent ≡ rowOf part .cells
-  pub right : AcceptedJob (jobOf part first (length image) wp p) image
+  pub right : AcceptedJob (jobFrom part first (length image) wp p) image
 
 pub passed : (part lent first : ℕ) (image : List ℕ) (wp : Bool) (p : ℕ) → jobRefusal part lent first image wp p ≡ 0 → Passed part lent first image wp p
 unfolding jobRefusal rangeRefusal
 passed part lent first image wp p e =
     let a = none-first _ _ e in
     let b = zero-left _ _ 1 (a .1) in
-    let c = zero-right _ 9 _ (b .1) in
-    let d = zero-right _ 9 _ (c .1) in
-    let f = zero-right _ 5 _ (d .1) in
+    let c = zero-left _ _ 9 (b .1) in
+    let d = interval p (c .0) in
+    let f = zero-right _ 5 _ (c .1) in
     let g = zero-right _ 5 _ (f .1) in
     let h = zero-left _ _ 6 (g .1) in
     let i = zero-left _ _ 7 (h .1) in
-    let some : p ≡ 0 → ⊥ = eqb-false _ _ (c .0) in
     let al : first % sectorSize (rowOf part .width) ≤ 0 = ltb-false _ _ (f .0) in
     let wh : length image % sectorSize (rowOf part .width) ≤ 0 = ltb-false _ _ (g .0) in
     record {
@@ -74,8 +74,8 @@ passed part lent first image wp p e =
             aligned = omega arith;
             whole = omega arith;
             fits = i .0;
-            some = omega arith;
-            most = ltb-false _ _ (d .0);
+            some = d .0;
+            most = d .1;
             heeded = unprotected (rowOf part) first (length image) wp (i .1);
           };
     }

@@ -27,7 +27,7 @@ use Rattle.job.specs.Refusal.{jobRefusal}
 use Rattle.job.specs.Run.{World, world, noneSent, playOf, runFrom, stopFrom, ended}
 use Rattle.job.specs.Sent.{sentOf}
 use Rattle.job.specs.Formulas.{N, operationTime}
-use Rattle.job.specs.Bill.{FullTimeFits, jobOf, firstFew, billOf, billed, reported, played, playedAll, reportOf, loadOf}
+use Rattle.job.specs.Bill.{FullTimeFits, jobFrom, firstFew, billOf, billed, reported, played, playedAll, reportOf, loadOf}
 use Rattle.job.proofs.Accepts.{Passed, passed, sector-most}
 use Rattle.job.proofs.Runs.{runs, never-stops-short}
 use Rattle.job.proofs.Counts.{length-most}
@@ -64,7 +64,7 @@ none-given e l = omega arith
 
 module _ (part first : ℕ) (image cells : List ℕ) (wp : Bool) (p : ℕ) (z : jobRefusal part (length cells) first image wp p ≡ 0) where
   abbrev j : Job
-  j = jobOf part first (length image) wp p
+  j = jobFrom part first (length image) wp p
 
   ok : Passed part (length cells) first image wp p
   ok = passed part (length cells) first image wp p z

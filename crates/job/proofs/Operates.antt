@@ -22,7 +22,7 @@ use Rattle.driver.specs.Refusals.{startRefusal}
 use Rattle.driver.specs.Writes.{writesOf, writeCount}
 use Rattle.driver.specs.Machine.{addressOf, valueWanted, begun, inRange, writingOf, stepOf, moved, ended, startWriting}
 use Rattle.driver.specs.Talk.{operationCycles, Told, told, talk, completed, shownAfter}
-use Rattle.driver.proofs.Begins.{started, start-range, kept-address, kept-writes}
+use Rattle.driver.proofs.Begins.{start-is, start-range, kept-address, kept-writes}
 use Rattle.driver.proofs.Steps.{goes, keeps, asks-on}
 use Rattle.driver.proofs.Named.{writesNamed, namedIn, names, spoken, talk-adds}
 use Rattle.driver.proofs.Theorems.{succeeds}
@@ -67,7 +67,7 @@ module _ (j : Job) (image : List ℕ) (right : j .row ≡ rowOf (j .part)) (task
   -- the driver's first step, which names a write
   begins : beginOf j task base i command x ≡ drivenOf j image task base i first
   unfolding beginOf drivenOf startWriting writingOf
-  begins = rw (started (j .part) command at x (j .p) accepted, goes b 0 ranged)
+  begins = rw (start-is (j .part) command at x (j .p) accepted, goes b 0 ranged)
 
   -- the list is what it has named once it is done
   named : operated j command at x ≡ namedIn Sent (asSent j command) b Done n
@@ -82,7 +82,7 @@ module _ (j : Job) (image : List ℕ) (right : j .row ≡ rowOf (j .part)) (task
     talk-is : talk (j .part) (j .wp) fuel first (chipOf w)
         ≡ told (operationCycles (rowOf (j .part)) (j .wp) command at x (j .p) n Done) (chip (completed (rowOf (j .part)) command at x (w .cells)) freshDevice) (ended (moved b Polling n) Done)
     talk-is =
-        rw (started (j .part) command at x (j .p) accepted) at
+        rw (start-is (j .part) command at x (j .p) accepted) at
         (succeeds (j .part) command at x (j .p) (j .wp) (w .cells) (w .held .device) accepted whole (rw rest fresh-idle) heeded same fuel 0 (le-refl fuel))
 
     -- the driver has said it at its end

@@ -21,8 +21,8 @@ use Rattle.job.specs.Sent.{sentOf}
 use Rattle.job.specs.Formulas.{operationTime}
 
 -- a job that was not refused
-abbrev pub jobOf : ℕ → ℕ → ℕ → Bool → ℕ → Job
-jobOf part first count wp p =
+abbrev pub jobFrom : ℕ → ℕ → ℕ → Bool → ℕ → Job
+jobFrom part first count wp p =
     record { part = part; row = rowOf part; size = sectorSize (rowOf part .width); first = first; count = count; wp = wp; p = p }
 
 -- ---- the bill
@@ -69,10 +69,10 @@ refusedReport n = record { answer = n; sent = 0; last = noLast; reply = 0; erase
 
 -- ---- the two calls: from a fresh device the one list, or its first k cycles, goes through the bus cycle
 abbrev pub played : ℕ → List ℕ → ℕ → List ℕ → Bool → ℕ → ℕ → World
-played part cells first image wp p k = playOf part (world cells noneSent) (take k (sentOf (jobOf part first (length image) wp p) image cells))
+played part cells first image wp p k = playOf part (world cells noneSent) (take k (sentOf (jobFrom part first (length image) wp p) image cells))
 
 abbrev pub playedAll : ℕ → List ℕ → ℕ → List ℕ → Bool → ℕ → World
-playedAll part cells first image wp p = playOf part (world cells noneSent) (sentOf (jobOf part first (length image) wp p) image cells)
+playedAll part cells first image wp p = playOf part (world cells noneSent) (sentOf (jobFrom part first (length image) wp p) image cells)
 
 pub record Reported : Type 0 where
   pub cells : List ℕ
@@ -91,7 +91,7 @@ pub record Loaded : Type 0 where
 -- sum: the values of the range afterwards; the answer is 0
 abbrev pub billed : ℕ → ℕ → List ℕ → Bool → ℕ → World → Bill
 billed part first image wp p w =
-    billOf (jobOf part first (length image) wp p) (w .held .tally) (sumOf (rowOf part .width) (take (length image) (drop first (w .cells)))) 0
+    billOf (jobFrom part first (length image) wp p) (w .held .tally) (sumOf (rowOf part .width) (take (length image) (drop first (w .cells)))) 0
 
 unfoldable pub loadOf : ℕ → List ℕ → ℕ → List ℕ → Bool → ℕ → Loaded
 loadOf part cells first image wp p =

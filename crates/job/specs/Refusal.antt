@@ -8,6 +8,7 @@ use Rattle.parts.specs.Names.{WRONG-CELLS, NOT-SECTORS, PAST-CELLS, WIDE-IMAGE,
 use Rattle.parts.specs.Pick.{pick, _when_, _unless_, _else_, _orElse_}
 use Rattle.parts.specs.Width.{fitsIn, sectorSize}
 use Rattle.parts.specs.Table.{rowOf, partRefusal}
+use Rattle.parts.specs.Time.{isInterval}
 use Rattle.parts.specs.Span.{protectedOf}
 use Rattle.parts.specs.declared.span.Span.{Span}
 use Rattle.parts.specs.declared.table.Row.{Row}
@@ -42,6 +43,5 @@ unfoldable pub jobRefusal : ℕ → ℕ → ℕ → List ℕ → Bool → ℕ �
 jobRefusal part lent first image wp p =
     partRefusal part
     orElse WRONG-CELLS unless eqb lent (rowOf part .cells)
-    else BAD-INTERVAL when eqb p 0
-    else BAD-INTERVAL when ltb 1000 p
+    else BAD-INTERVAL unless isInterval p
     else rangeRefusal (rowOf part) first image wp

@@ -12,7 +12,7 @@ use parts::names::SECTOR;
 ghost use mathlib.Core.Path.{_≡_};
 ghost use Prim.Native.Nat.{_-_, _≤_};
 ghost use Rattle.job.specs.Formulas.{operationTime};
-ghost use Rattle.job.specs.Bill.{FullTimeFits, billOf, firstFew, fullOf, jobOf, loadOf, refusedBill, refusedReport, reportOf, reported};
+ghost use Rattle.job.specs.Bill.{FullTimeFits, billOf, firstFew, fullOf, jobFrom, loadOf, refusedBill, refusedReport, reportOf, reported};
 
 // The bill: µs saved and spent, then counts, the sum, and 0 or the refusal.
 pub struct Bill {
@@ -43,7 +43,7 @@ pub struct Report {
 
 // A job that was not refused.
 fn job_of(part: u32, first: u32, count: u32, wp: bool, p: u32) -> Job
-    ensures { λ r. ⌜ r ≡ jobOf part first count wp p ⌝ }
+    ensures { λ r. ⌜ r ≡ jobFrom part first count wp p ⌝ }
 {
     let found = parts::part_row(part);
     let row = found.row;

@@ -107,10 +107,7 @@ pub(crate) fn job_refusal(
     if lent != row.cells as usize {
         return WRONG_CELLS;
     }
-    if p == 0 {
-        return BAD_INTERVAL;
-    }
-    if 1000 < p {
+    if !parts::is_interval(p) {
         return BAD_INTERVAL;
     }
     range_refusal(row, first, image, wp)

@@ -27,6 +27,8 @@ use Rattle.parts.proofs.table.Row.protected_range.Kinds as protected-ra
 use Rattle.parts.proofs.table.Row.protected_range.Reads as protected-range-reads
 use Rattle.parts.proofs.table.Row.time.Kinds as time-kinds
 use Rattle.parts.proofs.table.Row.time.Reads as time-reads
+use Rattle.parts.proofs.time.is_interval.Kinds as is-interval-kinds
+use Rattle.parts.proofs.time.is_interval.Reads as is-interval-reads
 use Rattle.parts.proofs.time.rounded_up.Kinds as rounded-up-kinds
 use Rattle.parts.proofs.time.rounded_up.Reads as rounded-up-reads
 
@@ -62,6 +64,9 @@ protected-range-unique κs a x y s t p q = p ∙ sym q
 
 pub time-unique : Unique time-kinds.ps time-kinds.r time-reads.Post
 time-unique κs a x y s t p q = p ∙ sym q
+
+pub is-interval-unique : Unique is-interval-kinds.ps is-interval-kinds.r is-interval-reads.Post
+is-interval-unique κs a x y s t p q = p ∙ sym q
 
 pub rounded-up-unique : Unique rounded-up-kinds.ps rounded-up-kinds.r rounded-up-reads.Post
 rounded-up-unique κs a x y s t p q = p ∙ sym q

@@ -1,11 +1,24 @@
--- Laws of rounding up: N polls, p apart, are the fewest that reach a time T.
+-- Laws of polling: an interval p, and rounding up: N polls, p apart, are the fewest that reach a time T.
 use mathlib.Core.Path.{_≡_, sym, ap, _∙_}
 use Prim.Native.Nat.{ℕ, suc, _+_, _-_, _*_, _/_, _≤_, _<_}
 use native.Mathlib.Nat.{le-of-suc-le-suc, lt-of-not-le, suc-mul, zero-mul, mul-le-mul-right, div-mul-le-self, lt-div-mul-add, add-div-right}
 use native.Mathlib.Omega.{arith}
-use borrow.Author.Tests.{ne-eqb}
-use Rattle.parts.specs.Time.{roundedUp}
+use borrow.Author.Tests.{ne-eqb, ltb-false, leb-true, le-ltb, le-leb}
+use mathlib.Core.Bool.{true}
+use lib.Dec.{ltb, leb}
+use Rattle.parts.proofs.Every.{unless}
+use Rattle.parts.specs.Time.{isInterval, roundedUp}
 
+-- ---- a polling interval, both ways
+pub interval : (p : ℕ) → isInterval p ≡ true → (0 < p) × (p ≤ 1000)
+unfolding isInterval
+interval p e = let w = unless (ltb p 1) (leb p 1000) e in (ltb-false p 1 (w .0), leb-true p 1000 (w .1))
+
+pub interval-is : (p : ℕ) → 0 < p → p ≤ 1000 → isInterval p ≡ true
+unfolding isInterval
+interval-is p some most = rw (le-ltb p 1 some, le-leb p 1000 most)
+
+-- ---- N
 module _ (T p : ℕ) (some : 0 < p) where
   quotient : roundedUp T p ≡ (T + (p - 1)) / p
   unfolding roundedUp

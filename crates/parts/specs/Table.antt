@@ -4,7 +4,7 @@ use mathlib.Core.List.{List, [], _∷_}
 use lib.Dec.{ltb}
 use lib.ListN.{getD}
 use Rattle.parts.specs.Names.{NO-PART}
-use Rattle.parts.specs.Pick.{pick, _when_, _else_}
+use Rattle.parts.specs.Pick.{_when_, _else_}
 use Rattle.parts.specs.declared.table.End.{End}
 use Rattle.parts.specs.declared.table.End.the-variants.{Neither, Lowest, Highest}
 use Rattle.parts.specs.declared.table.Line.{Line}

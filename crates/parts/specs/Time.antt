@@ -2,7 +2,7 @@
 use Prim.Native.Nat.{ℕ, _+_, _-_, _/_}
 use mathlib.Core.List.{List, [], _∷_}
 use mathlib.Core.Bool.{Bool, true, false}
-use lib.Dec.{eqb, ltb}
+use lib.Dec.{eqb, ltb, leb}
 use lib.ListN.{getD}
 use Rattle.parts.specs.Names.{BLOCK, CHIP}
 use Rattle.parts.specs.Pick.{pick, _when_, _else_}
@@ -20,6 +20,10 @@ times r = r .program ∷ r .erase ∷ r .erase ∷ r .chip ∷ []
 -- T: the table time of a command
 unfoldable pub timeOf : Row → ℕ → ℕ
 timeOf r command = getD (times r) command 0
+
+-- a polling interval: 1 to 1,000 µs
+unfoldable pub isInterval : ℕ → Bool
+isInterval p = false when ltb p 1 else leb p 1000
 
 -- T / p rounded up; 0 for no p
 unfoldable pub roundedUp : ℕ → ℕ → ℕ

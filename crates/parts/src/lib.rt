@@ -14,6 +14,7 @@ pub use table::Found;
 pub use table::Line;
 pub use table::Row;
 pub use table::part_row;
+pub use time::is_interval;
 pub use time::rounded_up;
 pub use width::blank;
 pub use width::fits;

@@ -3,7 +3,17 @@ use crate::Row;
 use crate::names::BLOCK;
 use crate::names::CHIP;
 ghost use mathlib.Core.Path.{_≡_};
-ghost use Rattle.parts.specs.Time.{hasCommand, roundedUp, timeOf};
+ghost use Rattle.parts.specs.Time.{hasCommand, isInterval, roundedUp, timeOf};
+
+// Whether p is a polling interval: 1 to 1,000 µs.
+pub fn is_interval(p: u32) -> bool
+    ensures { λ r. ⌜ r ≡ isInterval p ⌝ }
+{
+    if p < 1 {
+        return false;
+    }
+    p <= 1000
+}
 
 // T / p rounded up; 0 for no p.
 pub fn rounded_up(time: u32, p: u32) -> u32
