@@ -3,7 +3,7 @@ use Prim.Native.Nat.{ℕ, _+_, _≤_, _<_}
 use mathlib.Core.Path.{_≡_, refl}
 use mathlib.Core.Bool.{true, false}
 use native.Mathlib.Omega.{arith}
-use borrow.Author.Tests.{ltb-true, ltb-false, lt-ltb, le-ltb, eqb-true, eq-eqb}
+use borrow.Author.Tests.{ltb-true, ltb-false, lt-ltb, le-ltb, le-leb, eqb-true, eq-eqb}
 use lib.Dec.{eqb, ltb}
 use Rattle.parts.specs.Pick.{pick}
 use Rattle.parts.specs.Width.{fitsIn}
@@ -101,7 +101,7 @@ stage-none k = pick-same (busy k) true
 
 pub stage-rests : (k : Core) (s : ℕ) → busy k ≡ false → s ≤ 6 → stageInRange k s ≡ true
 unfolding stageInRange
-stage-rests k s b h = simp (b, lt-ltb s 7 (omega arith))
+stage-rests k s b h = simp (b, le-leb s 6 h)
 
 pub stage-busy : (k : Core) (s : ℕ) → stageInRange k s ≡ true → busy k ≡ true → s ≡ 0
 unfolding stageInRange

@@ -4,7 +4,8 @@ use mathlib.Core.Bool.{Bool}
 use mathlib.Core.List.{List}
 use lib.Dec.{eqb, ltb}
 use lib.ListN.{length, getD}
-use Rattle.parts.specs.Pick.{pick}
+use Rattle.parts.specs.Names.{PROGRAM, WRONG-CELLS, NO-ADDRESS, WIDE-DATA, BAD-STATE}
+use Rattle.parts.specs.Pick.{pick, _unless_, _else_, _orElse_}
 use Rattle.parts.specs.Width.{valueOf, fitsIn}
 use Rattle.parts.specs.Table.{rowOf, foundOf}
 use Rattle.parts.specs.declared.table.Row.{Row}
@@ -48,18 +49,18 @@ outcome cells v d = record { cells = cells; reply = reply 0 v d }
 
 -- ---- refusals: 3 for a read or write at or past the cells, 4 for a write of data that does not fit
 unfoldable pub actionRefusal : Row → Action → ℕ
-actionRefusal r (Read a) = pick (ltb a (r .cells)) 0 3
-actionRefusal r (Write a x) = pick (ltb a (r .cells)) (pick (fitsIn (r .width) x) 0 4) 3
+actionRefusal r (Read a) = NO-ADDRESS unless ltb a (r .cells) else 0
+actionRefusal r (Write a x) = NO-ADDRESS unless ltb a (r .cells) else WIDE-DATA unless fitsIn (r .width) x else 0
 actionRefusal r Idle = 0
 actionRefusal r (Cut s) = 0
 
 -- 1, 2, 5, then 3 and 4, on the state as given and on a part that was looked up
 abbrev pub cycleRefusalOn : Found → ℕ → Device → Action → ℕ
 cycleRefusalOn f lent d a =
-    pick (ltb 0 (f .answer)) (f .answer)
-    (pick (eqb lent (f .row .cells))
-    (pick (deviceInRange (f .row) d) (actionRefusal (f .row) a) 5)
-    2)
+    f .answer
+    orElse WRONG-CELLS unless eqb lent (f .row .cells)
+    else BAD-STATE unless deviceInRange (f .row) d
+    else actionRefusal (f .row) a
 
 unfoldable pub cycleRefusal : ℕ → ℕ → Device → Action → ℕ
 cycleRefusal part lent d a = cycleRefusalOn (foundOf part) lent d a
@@ -89,7 +90,7 @@ afterTime r h e =
 -- ---- reads
 -- bit 7 while busy: the complement of the data's for program, 0 for erase
 abbrev pub bit7 : Operation → ℕ
-bit7 o = pick (eqb (o .kind) 0) (1 - o .«data» / 128 % 2) 0
+bit7 o = pick (eqb (o .kind) PROGRAM) (1 - o .«data» / 128 % 2) 0
 
 -- bit 6 while busy
 abbrev pub bit6 : Operation → ℕ

@@ -1,7 +1,8 @@
 -- The device state, and the states in range for a part.
 use Prim.Native.Nat.{ℕ}
 use mathlib.Core.Bool.{Bool, true, false, not}
-use lib.Dec.{eqb, ltb}
+use lib.Dec.{eqb, ltb, leb}
+use Rattle.parts.specs.Names.{NONE-BEGUN, SECOND-55H}
 use Rattle.parts.specs.Pick.{pick}
 use Rattle.parts.specs.Width.{fitsIn}
 use Rattle.parts.specs.Time.{hasCommand, timeOf}
@@ -66,7 +67,7 @@ withCore d k = device k (d .stage)
 
 -- fresh: read mode, no sequence, idle
 abbrev pub freshDevice : Device
-freshDevice = device freshCore 0
+freshDevice = device freshCore NONE-BEGUN
 
 -- ---- states in range
 -- a pending operation: a kind the part has, no more time than its table time, an address of the part, data that fits
@@ -88,7 +89,7 @@ coreInRange r k = pick (busy k) (pick (reads (k .mode)) (validOperation r (k .ru
 
 -- a step within the seven stages; with an operation pending no sequence
 unfoldable pub stageInRange : Core → ℕ → Bool
-stageInRange k s = pick (busy k) (eqb s 0) (ltb s 7)
+stageInRange k s = pick (busy k) (eqb s NONE-BEGUN) (leb s SECOND-55H)
 
 unfoldable pub deviceInRange : Row → Device → Bool
 deviceInRange r d = pick (stageInRange (d .core) (d .stage)) (coreInRange r (d .core)) false
@@ -98,4 +99,4 @@ unfoldable pub coreIdle : Core → Bool
 coreIdle k = pick (busy k) false (reads (k .mode))
 
 unfoldable pub idle : Device → Bool
-idle d = pick (eqb (d .stage) 0) (coreIdle (d .core)) false
+idle d = pick (eqb (d .stage) NONE-BEGUN) (coreIdle (d .core)) false

@@ -4,7 +4,8 @@ use mathlib.Core.List.{List, _++_, map}
 use lib.Dec.{eqb}
 use lib.ListN.{take, drop}
 use lib.Bits.{bitAnd, bitOr}
-use Rattle.parts.specs.Pick.{pick}
+use Rattle.parts.specs.Names.{PROGRAM, SECTOR, BLOCK}
+use Rattle.parts.specs.Pick.{pick, _when_, _else_}
 use Rattle.parts.specs.Width.{valueOf, blankOf}
 use Rattle.parts.specs.Span.{span, sectorOf, blockOf}
 use Rattle.parts.specs.declared.span.Span.{Span}
@@ -14,10 +15,10 @@ use Rattle.chip.specs.declared.device.Operation.{Operation}
 -- the cells of an operation: the programmed cell, the sector, the block or the chip
 unfoldable pub cellsOf : Row → Operation → Span
 cellsOf r o =
-    pick (eqb (o .kind) 0) (span (o .address) 1)
-    (pick (eqb (o .kind) 1) (sectorOf r (o .address))
-    (pick (eqb (o .kind) 2) (blockOf r (o .address))
-    (span 0 (r .cells))))
+    span (o .address) 1 when eqb (o .kind) PROGRAM
+    else sectorOf r (o .address) when eqb (o .kind) SECTOR
+    else blockOf r (o .address) when eqb (o .kind) BLOCK
+    else span 0 (r .cells)
 
 -- f at each cell of a range; the others as they were
 abbrev pub over : (ℕ → ℕ) → Span → List ℕ → List ℕ
@@ -25,12 +26,12 @@ over f s cells = take (s .first) cells ++ (map f (take (s .count) (drop (s .firs
 
 -- program leaves old AND data; erase leaves blank
 abbrev pub finished : Row → Operation → ℕ → ℕ
-finished r o old = pick (eqb (o .kind) 0) (bitAnd old (o .«data»)) (blankOf (r .width))
+finished r o old = pick (eqb (o .kind) PROGRAM) (bitAnd old (o .«data»)) (blankOf (r .width))
 
 -- cut short: a programmed cell is old AND (data OR scar), an erased one old OR scar, on the part's width
 abbrev pub scarred : Row → Operation → ℕ → ℕ → ℕ
 scarred r o scar old =
-    pick (eqb (o .kind) 0)
+    pick (eqb (o .kind) PROGRAM)
     (bitAnd old (bitOr (o .«data») (valueOf (r .width) scar)))
     (bitOr (valueOf (r .width) old) (valueOf (r .width) scar))
 

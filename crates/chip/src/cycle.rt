@@ -9,6 +9,11 @@ use crate::sequence::written;
 use commands::Mode;
 use parts::Found;
 use parts::Row;
+use parts::names::BAD_STATE;
+use parts::names::NO_ADDRESS;
+use parts::names::PROGRAM;
+use parts::names::WIDE_DATA;
+use parts::names::WRONG_CELLS;
 ghost use mathlib.Core.Path.{_≡_};
 ghost use Prim.Native.Nat.{_<_};
 ghost use lib.ListN.{length};
@@ -48,23 +53,23 @@ pub(crate) struct Shown {
 fn write_refusal(row: Row, a: u32, x: u16) -> u32
     ensures { λ r. ⌜ r ≡ actionRefusal row (Action.Write a x) ⌝ }
 {
-    if a < row.cells {
-        if parts::fits(row.width, x) {
-            return 0;
-        }
-        return 4;
+    if row.cells <= a {
+        return NO_ADDRESS;
     }
-    3
+    if !parts::fits(row.width, x) {
+        return WIDE_DATA;
+    }
+    0
 }
 
 // The refusal of an address to read.
 fn read_refusal(row: Row, a: u32) -> u32
     ensures { λ r. ⌜ r ≡ actionRefusal row (Action.Read a) ⌝ }
 {
-    if a < row.cells {
-        return 0;
+    if row.cells <= a {
+        return NO_ADDRESS;
     }
-    3
+    0
 }
 
 // The refusal of what a cycle does.
@@ -88,13 +93,13 @@ fn cycle_refusal(found: Found, lent: usize, d: Device, action: Action) -> u32
         return answer;
     }
     let row = found.row;
-    if lent == row.cells as usize {
-        if d.in_range(row) {
-            return action_refusal(row, action);
-        }
-        return 5;
+    if lent != row.cells as usize {
+        return WRONG_CELLS;
     }
-    2
+    if !d.in_range(row) {
+        return BAD_STATE;
+    }
+    action_refusal(row, action)
 }
 
 // Time passes.
@@ -119,7 +124,7 @@ fn settle(cells: &mut [u16], row: Row, core: Core, elapsed: u32) -> Core
 fn bit_7(o: Operation) -> u16
     ensures { λ r. ⌜ r ≡ bit7 o ⌝ }
 {
-    if o.kind == 0 {
+    if o.kind == PROGRAM {
         return 1 - o.data / 128 % 2;
     }
     0

@@ -1,6 +1,8 @@
 // The device state: its core, that is its mode and the operation that runs, and the stage of its write sequence.
 use commands::Mode;
 use parts::Row;
+use parts::names::NONE_BEGUN;
+use parts::names::SECOND_55H;
 ghost use mathlib.Core.Path.{_≡_};
 ghost use Rattle.chip.specs.Device.{atRest, busy, busyWith, coreInRange, deviceInRange, freshDevice, inMode, noOperation, reads, toggled, validOperation, withCore, withLeft, withRunning};
 
@@ -20,7 +22,7 @@ pub struct Core {
     pub running: Operation,
 }
 
-// Stages: 0 no sequence begun, 1 AAH, 2 55H, 3 armed by A0H, 4 after 80H, 5 AAH again, 6 55H again.
+// The stage is one of the seven of a write sequence (parts::names).
 pub struct Device {
     pub core: Core,
     pub stage: u32,
@@ -168,12 +170,12 @@ impl Device {
         let core = self.core;
         let stage = self.stage;
         if core.is_busy() {
-            if stage == 0 {
+            if stage == NONE_BEGUN {
                 return core.in_range(row);
             }
             return false;
         }
-        if stage < 7 {
+        if stage <= SECOND_55H {
             return core.in_range(row);
         }
         false
@@ -188,5 +190,8 @@ pub fn fresh() -> Device
         mode: Mode::ReadMode,
         running: no_operation(),
     };
-    Device { core, stage: 0 }
+    Device {
+        core,
+        stage: NONE_BEGUN,
+    }
 }

@@ -2,6 +2,9 @@
 use crate::Operation;
 use parts::Row;
 use parts::Span;
+use parts::names::BLOCK;
+use parts::names::PROGRAM;
+use parts::names::SECTOR;
 ghost use mathlib.Core.Path.{_≡_};
 ghost use mathlib.Core.List.{map};
 ghost use Prim.Native.Nat.{_+_, _≤_};
@@ -17,16 +20,16 @@ fn cells_of(row: Row, o: Operation) -> Span
 {
     let kind = o.kind;
     let address = o.address;
-    if kind == 0 {
+    if kind == PROGRAM {
         return Span {
             first: address,
             count: 1,
         };
     }
-    if kind == 1 {
+    if kind == SECTOR {
         return row.sector_of(address);
     }
-    if kind == 2 {
+    if kind == BLOCK {
         return row.block_of(address);
     }
     Span {
@@ -64,7 +67,7 @@ pub(crate) fn complete(cells: &mut [u16], row: Row, o: Operation)
     requires { ⌜ InWords row ⌝ }
     ensures { λ _. ⌜ now (cells .exit) ≡ completeOn row o (now (cells .entry)) ⌝ }
 {
-    if o.kind == 0 {
+    if o.kind == PROGRAM {
         let at = o.address as usize;
         cells[at] = cells[at] & o.data;
         return;
@@ -81,7 +84,7 @@ pub(crate) fn cut_short(cells: &mut [u16], row: Row, o: Operation, scar: u16)
     ensures { λ _. ⌜ now (cells .exit) ≡ cutOn row o scar (now (cells .entry)) ⌝ }
 {
     let mark = parts::value(row.width, scar);
-    if o.kind == 0 {
+    if o.kind == PROGRAM {
         let at = o.address as usize;
         cells[at] = cells[at] & (o.data | mark);
         return;

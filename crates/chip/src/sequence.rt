@@ -5,6 +5,8 @@ use crate::Operation;
 use commands::Effect;
 use commands::Mode;
 use parts::Row;
+use parts::names::CHIP;
+use parts::names::NONE_BEGUN;
 ghost use mathlib.Core.Path.{_≡_};
 ghost use Rattle.chip.specs.Sequence.{afterEffect, coreAfter, ignored, writtenOf};
 
@@ -16,7 +18,7 @@ fn is_ignored(row: Row, wp: bool, command: u32, a: u32) -> bool
         return false;
     }
     let protected = row.protected_range();
-    if command == 3 {
+    if command == CHIP {
         return 0 < protected.count;
     }
     protected.holds(a)
@@ -47,11 +49,11 @@ fn after_effect(row: Row, core: Core, wp: bool, a: u32, x: u16, effect: Effect) 
         Effect::Goes(stage) => Device { core, stage },
         Effect::Starts(command) => Device {
             core: start(row, core, wp, command, a, x),
-            stage: 0,
+            stage: NONE_BEGUN,
         },
         Effect::Enters(mode) => Device {
             core: core.in_mode(mode),
-            stage: 0,
+            stage: NONE_BEGUN,
         },
     }
 }

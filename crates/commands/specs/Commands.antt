@@ -3,6 +3,7 @@ use Prim.Native.Nat.{ℕ, _%_}
 use mathlib.Core.Bool.{Bool, true, false}
 use mathlib.Core.List.{List, [], _∷_}
 use lib.Dec.{eqb}
+use Rattle.parts.specs.Names.{PROGRAM, SECTOR, BLOCK, CHIP, NONE-BEGUN, FIRST-AAH, FIRST-55H, ARMED, GONE-ON, SECOND-AAH, SECOND-55H}
 use Rattle.parts.specs.Pick.{pick}
 use Rattle.parts.specs.Span.{hasBlocks}
 use Rattle.parts.specs.declared.table.Row.{Row}
@@ -32,23 +33,23 @@ broken = Enters ReadMode
 
 -- the block code starts nothing where the part has no blocks
 abbrev pub blockErase : Row → Effect
-blockErase r = pick (hasBlocks r) (Starts 2) broken
+blockErase r = pick (hasBlocks r) (Starts BLOCK) broken
 
--- stages: 0 none begun, 1 AAH, 2 55H, 3 armed by A0H, 4 after 80H, 5 AAH again, 6 55H again
+-- the data sheets' command table, stage by stage
 abbrev pub commands : Row → List Rule
 commands r =
-    rule 0 (AtU1 0xaa) (Goes 1)
-    ∷ rule 1 (AtU2 0x55) (Goes 2)
-    ∷ rule 2 (AtU1 0xa0) (Goes 3)
-    ∷ rule 3 Anything (Starts 0)
-    ∷ rule 2 (AtU1 0x80) (Goes 4)
-    ∷ rule 4 (AtU1 0xaa) (Goes 5)
-    ∷ rule 5 (AtU2 0x55) (Goes 6)
-    ∷ rule 6 (At (r .«sector_code»)) (Starts 1)
-    ∷ rule 6 (At (r .«block_code»)) (blockErase r)
-    ∷ rule 6 (AtU1 0x10) (Starts 3)
-    ∷ rule 2 (AtU1 0x90) (Enters Identification)
-    ∷ rule 2 (AtU1 0xf0) (Enters ReadMode)
+    rule NONE-BEGUN (AtU1 0xaa) (Goes FIRST-AAH)
+    ∷ rule FIRST-AAH (AtU2 0x55) (Goes FIRST-55H)
+    ∷ rule FIRST-55H (AtU1 0xa0) (Goes ARMED)
+    ∷ rule ARMED Anything (Starts PROGRAM)
+    ∷ rule FIRST-55H (AtU1 0x80) (Goes GONE-ON)
+    ∷ rule GONE-ON (AtU1 0xaa) (Goes SECOND-AAH)
+    ∷ rule SECOND-AAH (AtU2 0x55) (Goes SECOND-55H)
+    ∷ rule SECOND-55H (At (r .«sector_code»)) (Starts SECTOR)
+    ∷ rule SECOND-55H (At (r .«block_code»)) (blockErase r)
+    ∷ rule SECOND-55H (AtU1 0x10) (Starts CHIP)
+    ∷ rule FIRST-55H (AtU1 0x90) (Enters Identification)
+    ∷ rule FIRST-55H (AtU1 0xf0) (Enters ReadMode)
     ∷ []
 
 -- unlock addresses are compared on the low bits, command bytes on the low eight data bits

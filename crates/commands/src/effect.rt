@@ -1,7 +1,19 @@
 // The writes in sequence: what follows from a write.
 use parts::Row;
+use parts::names::ARMED;
+use parts::names::BLOCK;
+use parts::names::CHIP;
+use parts::names::FIRST_55H;
+use parts::names::FIRST_AAH;
+use parts::names::GONE_ON;
+use parts::names::NONE_BEGUN;
+use parts::names::PROGRAM;
+use parts::names::SECOND_55H;
+use parts::names::SECOND_AAH;
+use parts::names::SECTOR;
 ghost use mathlib.Core.Path.{_≡_};
 ghost use Prim.Native.Nat.{_%_};
+ghost use Rattle.parts.specs.Names.{FIRST-55H, SECOND-55H};
 ghost use Rattle.parts.specs.Pick.{pick};
 ghost use Rattle.commands.specs.Commands.{AtU1, AtU2, blockErase, broken, effectOf, isWanted};
 
@@ -63,13 +75,13 @@ fn on(met: bool, stage: u32) -> Effect
 
 // The third write, after 55H.
 fn third_write(row: Row, a: u32, x: u16) -> Effect
-    ensures { λ r. ⌜ r ≡ effectOf row 2 a x ⌝ }
+    ensures { λ r. ⌜ r ≡ effectOf row FIRST-55H a x ⌝ }
 {
     if at_u1(row, a, x, 0xa0) {
-        return Effect::Goes(3);
+        return Effect::Goes(ARMED);
     }
     if at_u1(row, a, x, 0x80) {
-        return Effect::Goes(4);
+        return Effect::Goes(GONE_ON);
     }
     if at_u1(row, a, x, 0x90) {
         return Effect::Enters(Mode::Identification);
@@ -82,24 +94,24 @@ fn block_erase(row: Row) -> Effect
     ensures { λ r. ⌜ r ≡ blockErase row ⌝ }
 {
     if row.has_blocks() {
-        return Effect::Starts(2);
+        return Effect::Starts(BLOCK);
     }
     BROKEN
 }
 
 // The last write of an erase, after the second 55H.
 fn last_write(row: Row, a: u32, x: u16) -> Effect
-    ensures { λ r. ⌜ r ≡ effectOf row 6 a x ⌝ }
+    ensures { λ r. ⌜ r ≡ effectOf row SECOND-55H a x ⌝ }
 {
     let byte = x as u32 % 256;
     if byte == row.sector_code {
-        return Effect::Starts(1);
+        return Effect::Starts(SECTOR);
     }
     if byte == row.block_code {
         return block_erase(row);
     }
     if at_u1(row, a, x, 0x10) {
-        return Effect::Starts(3);
+        return Effect::Starts(CHIP);
     }
     BROKEN
 }
@@ -109,13 +121,13 @@ pub fn effect_of(row: Row, stage: u32, a: u32, x: u16) -> Effect
     ensures { λ r. ⌜ r ≡ effectOf row stage a x ⌝ }
 {
     match stage {
-        0 => on(at_u1(row, a, x, 0xaa), 1),
-        1 => on(at_u2(row, a, x, 0x55), 2),
-        2 => third_write(row, a, x),
-        3 => Effect::Starts(0),
-        4 => on(at_u1(row, a, x, 0xaa), 5),
-        5 => on(at_u2(row, a, x, 0x55), 6),
-        6 => last_write(row, a, x),
+        NONE_BEGUN => on(at_u1(row, a, x, 0xaa), FIRST_AAH),
+        FIRST_AAH => on(at_u2(row, a, x, 0x55), FIRST_55H),
+        FIRST_55H => third_write(row, a, x),
+        ARMED => Effect::Starts(PROGRAM),
+        GONE_ON => on(at_u1(row, a, x, 0xaa), SECOND_AAH),
+        SECOND_AAH => on(at_u2(row, a, x, 0x55), SECOND_55H),
+        SECOND_55H => last_write(row, a, x),
         _ => BROKEN,
     }
 }

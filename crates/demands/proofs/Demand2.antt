@@ -1,56 +1,42 @@
--- Demand 2. Model and driver agree with the data sheets as document 01 states them: each cycle gives the stated value, state and cells; each command that the
--- driver issues to an idle, unprotected chip starts that operation and no other. And the driver answers after a stated number of cycles, whatever the chip replies.
--- Hypotheses of each theorem: the function's promise, as it is made from the source, of a call and of what it handed back; that the call is not refused; and,
--- where a chip is spoken of, that it has the part's number of cells, that it is idle, and that the WP# level does not protect what the command is aimed at.
-use Prim.Native.Nat.{ℕ, _+_, _*_, _≤_}
-use mathlib.Core.Path.{_≡_, refl, ap, ap₂, _∙_}
+-- Demand 2 is met. What is proved stands in specs/Demand2.antt.
+use Prim.Native.Nat.{ℕ, _+_, _-_, _*_, _/_, _^_, _≤_}
+use mathlib.Core.Path.{_≡_, refl, sym, ap, ap₂, _∙_}
 use mathlib.Core.Bool.{Bool, true, false}
 use mathlib.Core.List.{List, [], _∷_, _++_}
-use borrow.Author.Tests.{eq-eqb, eqb-true, eqb-false}
+use native.Mathlib.Nat.{div-add-mod', mul-left-comm}
 use native.Mathlib.Omega.{arith}
+use borrow.Author.Tests.{eq-eqb, eqb-true, eqb-false}
 use lib.Dec.{eqb}
-use lib.ListN.{length, take, replicate}
-use contract.Lifetimes.{Lfts}
-use borrow.Fn.Kinds.{Dens, endedOf, resT}
-use denote.Triple.Clauses.{AtExit}
+use lib.Pow.{pow-add}
+use lib.ListN.{take, replicate}
 use Rattle.parts.specs.Pick.{pick}
+use Rattle.parts.specs.Width.{valueOf}
 use Rattle.parts.specs.Table.{rowOf}
-use Rattle.parts.specs.Time.{pollsOf}
 use Rattle.parts.specs.declared.table.Row.{Row}
+use Rattle.parts.proofs.Every.{apart}
+use Rattle.parts.proofs.Sound.{width-least}
 use Rattle.chip.specs.declared.device.Device.{Device}
 use Rattle.chip.specs.declared.device.Operation.{Operation}
 use Rattle.chip.specs.declared.cycle.Action.the-variants.{Read}
 use Rattle.chip.specs.declared.cycle.Cycle.{Cycle}
-use Rattle.chip.specs.Device.{busyWith, device, freshDevice, idle}
-use Rattle.chip.specs.Sequence.{ignored}
-use Rattle.chip.specs.Cycle.{Chip, chip, Outcome, cycleRefusal, afterTime, actedOf, acceptedOf, cycleOf}
+use Rattle.chip.specs.Cycle.{cycle, Chip, chip, acceptedOf, cycleOf}
 use Rattle.chip.specs.Trace.{play, startedIn}
 use Rattle.chip.proofs.Started.{started-append, reads-start, one-read-starts}
-use Rattle.chip.proofs.bus_cycle.Kinds as bus-kinds
-use Rattle.chip.proofs.bus_cycle.Reads as bus-reads
+use Rattle.driver.specs.declared.machine.Driver.{Driver}
+use Rattle.driver.specs.declared.machine.Step.{Step}
+use Rattle.driver.specs.declared.machine.Phase.{Phase}
+use Rattle.driver.specs.declared.machine.Phase.the-variants.{Writing, Polling, Confirming, Done, GaveUp, Differs}
+use Rattle.driver.specs.declared.machine.Next.the-variants.{Nothing}
 use Rattle.driver.specs.Refusals.{commandRefusal, startRefusal}
 use Rattle.driver.specs.Writes.{write, unlock, lastWrite, writeCount, writesOf, sixPlaces, commandWrites}
-use Rattle.driver.specs.declared.machine.Phase.the-variants.{Polling, Done}
-use Rattle.driver.specs.Machine.{addressOf, bitSeven, bitWanted, valueWanted, begun as started-as, startOf, moved, ended, stepOf}
-use Rattle.driver.specs.Talk.{cycle, writeCycles, operationOf, completed, shownAfter, Told, told, talk, heard}
+use Rattle.driver.specs.Machine.{addressOf, confirmAfter, bitSeven, bitWanted, startOf, mostPolls, countFits, inRange, step, matches, pollingOf, confirmingOf, phaseOf, stepOf}
+use Rattle.driver.specs.Talk.{writeCycles, shownAfter, Told, talk}
 use Rattle.driver.proofs.Asked.{asking, begun}
-use Rattle.driver.proofs.Theorems.{writes-start, performs, gives-up, succeeds, Ended, always-ends}
-use Rattle.driver.proofs.start.Kinds as start-kinds
-use Rattle.driver.proofs.start.Reads as start-reads
-use Rattle.driver.proofs.command_writes.Kinds as writes-kinds
-use Rattle.driver.proofs.command_writes.Reads as writes-reads
+use Rattle.driver.proofs.Theorems as Theorems
+use Rattle.demands.specs.Calls.{onBus, busRefusal, toWrite, ToStart, toStart, refusedStart, StepCall, toStep}
+use Rattle.demands.specs.Demand2.{IdleUnprotected, operationAsked, polls, noRead, Demand2}
 
--- ---- one bus cycle: bus_cycle(part, cells, device, cycle)
-module _ (κs : Lfts 1) (a : Dens κs bus-kinds.ps) (x : resT bus-kinds.r κs .Denot) (s : AtExit (endedOf 1 bus-kinds.ps bus-kinds.r) κs) (promise : bus-reads.Post κs a x s) where
-  -- Of a cycle that is not refused, first time passes (`afterTime`), then the cycle acts (`actedOf`): that gives the value, the state and the cells.
-  pub cycle-acts : cycleRefusal (a .0) (length (a .1 .0 .now)) (a .1 .1 .0) (a .1 .1 .1 .0 .action) ≡ 0
-      → _≡_ {A = Outcome} (record { cells = s .1 .0 .now; reply = x })
-      (actedOf (rowOf (a .0)) (afterTime (rowOf (a .0)) (chip (a .1 .0 .now) (a .1 .1 .0)) (a .1 .1 .1 .0 .elapsed)) (a .1 .1 .1 .0 .wp) (a .1 .1 .1 .0 .action))
-  unfolding cycleOf acceptedOf
-  cycle-acts accepted =
-      rw (promise .0, promise .1, eq-eqb (cycleRefusal (a .0) (length (a .1 .0 .now)) (a .1 .1 .0) (a .1 .1 .1 .0 .action)) 0 accepted)
-
--- ---- a command's writes together: command_writes(part, command, address, data)
+-- ---- a command's writes together
 -- the first count of six places are the writes
 places-are : (part command address x : ℕ) → commandRefusal part command address x ≡ 0
     → take (commandWrites part command address x .count) (commandWrites part command address x .writes) ≡ writesOf (rowOf part) command address x
@@ -67,29 +53,7 @@ places-are part command address x accepted = rw (eq-eqb (commandRefusal part com
     by true = refl
     by false = refl
 
-module _ (κs : Lfts 0) (a : Dens κs writes-kinds.ps) (x : resT writes-kinds.r κs .Denot) (s : AtExit (endedOf 0 writes-kinds.ps writes-kinds.r) κs) (promise : writes-reads.Post κs a x s) where
-  abbrev part : ℕ
-  part = a .0
-
-  abbrev command : ℕ
-  command = a .1 .0
-
-  abbrev address : ℕ
-  address = a .1 .1 .0
-
-  abbrev word : ℕ
-  word = a .1 .1 .1 .0
-
-  -- The writes handed back, sent at 0 µs, leave the cells as they were and the device running the operation asked for, with its whole table time left;
-  -- and they start that operation and no other.
-  pub writes-begin : commandRefusal part command address word ≡ 0
-      → (cells : List ℕ) → length cells ≡ rowOf part .cells → (d : Device) → idle d ≡ true → (wp : Bool) → ignored (rowOf part) wp command address ≡ false
-      → (play part (chip cells d) (writeCycles wp (take (x .count) (x .writes))) ≡ chip cells (device (busyWith (d .core) (operationOf (rowOf part) command address word)) 0))
-      × (startedIn part (chip cells d) (writeCycles wp (take (x .count) (x .writes))) ≡ operationOf (rowOf part) command address word ∷ [])
-  writes-begin accepted cells whole d rests wp heeded =
-      rw (promise, places-are part command address word accepted) (writes-start part command address word wp cells d accepted whole rests heeded)
-
--- ---- the driver: start(part, command, address, data, p), then step after step
+-- ---- the driver
 -- the driver's cycles on a chip: its writes, some polls, and what follows that starts nothing
 begins-once : (part command address word : ℕ) (wp : Bool) (cells : List ℕ) (d : Device) (cs ds : List Cycle) (m e at : ℕ) (o : Operation)
     → cs ≡ writeCycles wp (writesOf (rowOf part) command address word) ++ (replicate m (cycle e wp (Read at)) ++ ds)
@@ -101,80 +65,124 @@ begins-once part command address word wp cells d cs ds m e at o q one none =
     ∙ (started-append part (chip cells d) ws (replicate m (cycle e wp (Read at)) ++ ds)
     ∙ ap₂ {A = List Operation} {B = List Operation} {C = List Operation} (λ x y. x ++ y) one (reads-start part m e wp at ds none (play part (chip cells d) ws)))
 
-module _ (κs : Lfts 0) (a : Dens κs start-kinds.ps) (x : resT start-kinds.r κs .Denot) (s : AtExit (endedOf 0 start-kinds.ps start-kinds.r) κs) (promise : start-reads.Post κs a x s)
-    (accepted : startRefusal (a .0) (a .1 .0) (a .1 .1 .0) (a .1 .1 .1 .0) (a .1 .1 .1 .1 .0) ≡ 0) where
-  abbrev started-part : ℕ
-  started-part = a .0
+-- a started driver's cycles start the operation asked for: it polls N times where the cell shows the wanted bit 7, else it gives up
+starts : (g : ToStart) → refusedStart g ≡ 0 → (cells : List ℕ) (d : Device) (wp : Bool) → IdleUnprotected (g .part) (g .command) (g .address) cells d wp
+    → (read n : ℕ) → writeCount (g .command) + polls g * 2 + 1 ≤ n
+    → startedIn (g .part) (chip cells d) (talk (g .part) wp n (stepOf (startOf (g .part) (g .command) (g .address) (g .word) (g .p) .driver) read) (chip cells d) .cycles)
+    ≡ operationAsked g ∷ []
+starts g accepted cells d wp i read n enough = by (eqb (bitSeven shown) (bitWanted command word)) refl
+  where
+    part : ℕ
+    part = g .part
 
-  abbrev started-command : ℕ
-  started-command = a .1 .0
+    command : ℕ
+    command = g .command
 
-  abbrev started-address : ℕ
-  started-address = a .1 .1 .0
+    address : ℕ
+    address = g .address
 
-  abbrev started-word : ℕ
-  started-word = a .1 .1 .1 .0
+    word : ℕ
+    word = g .word
 
-  abbrev p : ℕ
-  p = a .1 .1 .1 .1 .0
+    shown : ℕ
+    shown = shownAfter (rowOf part) command address word cells
 
-  abbrev N : ℕ
-  N = pollsOf (rowOf started-part) started-command p
+    one : startedIn part (chip cells d) (writeCycles wp (writesOf (rowOf part) command address word)) ≡ operationAsked g ∷ []
+    one =
+        Theorems.writes-start part command address word wp cells d (asking part command address word (begun part command address word (g .p) accepted .asked))
+        (i .whole) (i .rests) (i .heeded) .1
 
-  -- On an idle chip whose WP# level does not protect the target, the cycles that the driver names, each sent to the chip and its reply given to the next
-  -- step (`talk`), start the operation asked for and no other, whatever the cells hold.
-  pub driver-starts : (cells : List ℕ) → length cells ≡ rowOf started-part .cells → (d : Device) → idle d ≡ true
-      → (wp : Bool) → ignored (rowOf started-part) wp started-command started-address ≡ false
-      → (n read : ℕ) → writeCount started-command + N * 2 + 1 ≤ n
-      → startedIn started-part (chip cells d) (talk started-part wp n (stepOf (x .driver) read) (chip cells d) .cycles)
-      ≡ operationOf (rowOf started-part) started-command started-address started-word ∷ []
-  driver-starts cells whole d rests wp heeded n read enough =
-      rw promise (by (eqb (bitSeven shown) (bitWanted started-command started-word)) refl)
+    by : (t : Bool) → eqb (bitSeven shown) (bitWanted command word) ≡ t
+        → startedIn part (chip cells d) (talk part wp n (stepOf (startOf part command address word (g .p) .driver) read) (chip cells d) .cycles) ≡ operationAsked g ∷ []
+    by true t =
+        begins-once part command address word wp cells d _ (cycle confirmAfter wp (Read (addressOf command address)) ∷ []) (polls g) (g .p) (addressOf command address) (operationAsked g)
+        (ap (λ (t : Told). t .cycles)
+        (Theorems.performs part command address word (g .p) wp cells d accepted (i .whole) (i .rests) (i .heeded) (eqb-true _ _ t) n read (omega arith)))
+        one (one-read-starts part confirmAfter wp (addressOf command address))
+    by false t =
+        begins-once part command address word wp cells d _ [] (polls g * 2) (g .p) (addressOf command address) (operationAsked g)
+        (ap (λ (t : Told). t .cycles)
+        (Theorems.gives-up part command address word (g .p) wp cells d accepted (i .whole) (i .rests) (i .heeded) (eqb-false _ _ t) n read (omega arith)))
+        one (λ h. refl)
+
+-- ---- what a step takes of the value that it is given
+-- bit 7 is among the low eight bits
+low-bit : (w x : ℕ) → 8 ≤ w → bitSeven x ≡ bitSeven (valueOf w x)
+low-bit w x h =
+    let q : 2 ^ w ≡ 256 * 2 ^ (w - 8) = (let e : w ≡ 8 + (w - 8) = omega arith in ap (λ (n : ℕ). 2 ^ n) e) ∙ pow-add 2 8 (w - 8) in
+    let k : x / 2 ^ w * 2 ^ w ≡ 256 * (x / 2 ^ w * 2 ^ (w - 8)) = ap (λ (n : ℕ). x / 2 ^ w * n) q ∙ mul-left-comm (x / 2 ^ w) 256 (2 ^ (w - 8)) in
+    omega (arith, k, div-add-mod' x (2 ^ w))
+
+module _ (d : Driver) (u v : ℕ) where
+  -- nothing of the value
+  ignores : (f : Phase) → noRead f (d .count) ≡ true → phaseOf (rowOf (d .part)) f d u ≡ phaseOf (rowOf (d .part)) f d v
+  unfolding pollingOf matches
+  ignores Writing e = refl
+  ignores Polling e = rw (eqb-true (d .count) 0 e)
+  ignores Confirming e = apart e
+  ignores Done e = refl
+  ignores GaveUp e = refl
+  ignores Differs e = refl
+
+  -- its value on the part's width
+  counts : (f : Phase) → bitSeven u ≡ bitSeven v → valueOf (rowOf (d .part) .width) u ≡ valueOf (rowOf (d .part) .width) v
+      → phaseOf (rowOf (d .part)) f d u ≡ phaseOf (rowOf (d .part)) f d v
+  unfolding pollingOf matches confirmingOf
+  counts Writing b e = refl
+  counts Polling b e = rw b
+  counts Confirming b e = rw e
+  counts Done b e = refl
+  counts GaveUp b e = refl
+  counts Differs b e = refl
+
+  -- a state out of range is refused whatever is given
+  in-range : ((startRefusal (d .part) (d .command) (d .address) (d .«data») (d .p) ≡ 0) → phaseOf (rowOf (d .part)) (d .phase) d u ≡ phaseOf (rowOf (d .part)) (d .phase) d v)
+      → stepOf d u ≡ stepOf d v
+  unfolding stepOf inRange
+  in-range same =
+      by (eqb (startRefusal (d .part) (d .command) (d .address) (d .«data») (d .p)) 0) refl
     where
-      shown : ℕ
-      shown = shownAfter (rowOf started-part) started-command started-address started-word cells
+      fits : Bool
+      fits = countFits (d .phase) (writeCount (d .command)) (mostPolls (rowOf (d .part)) (d .command) (d .p)) (d .count)
 
-      at : ℕ
-      at = addressOf started-command started-address
+      by : (t : Bool) → eqb (startRefusal (d .part) (d .command) (d .address) (d .«data») (d .p)) 0 ≡ t
+          → pick (pick t fits false) (phaseOf (rowOf (d .part)) (d .phase) d u) (step 5 d Nothing 0) ≡ pick (pick t fits false) (phaseOf (rowOf (d .part)) (d .phase) d v) (step 5 d Nothing 0)
+      by true t = ap (λ (x : Step). pick fits x (step 5 d Nothing 0)) (same (eqb-true _ 0 t))
+      by false t = refl
 
-      o : Operation
-      o = operationOf (rowOf started-part) started-command started-address started-word
+-- bit 7 of two words of the same value, where a step looks at them
+bits : (d : Driver) (u v : ℕ) → valueOf (rowOf (d .part) .width) u ≡ valueOf (rowOf (d .part) .width) v
+    → startRefusal (d .part) (d .command) (d .address) (d .«data») (d .p) ≡ 0 → bitSeven u ≡ bitSeven v
+bits d u v e z =
+    let w = rowOf (d .part) .width in
+    let h = width-least (d .part) (begun (d .part) (d .command) (d .address) (d .«data») (d .p) z .asked .known) in
+    low-bit w u h ∙ (ap bitSeven e ∙ sym (low-bit w v h))
 
-      one : startedIn started-part (chip cells d) (writeCycles wp (writesOf (rowOf started-part) started-command started-address started-word)) ≡ o ∷ []
-      one =
-          writes-start started-part started-command started-address started-word wp cells d
-          (asking started-part started-command started-address started-word (begun started-part started-command started-address started-word p accepted .asked)) whole rests heeded .1
+-- two steps of one state whose definition gives the same
+same-step : (c e : StepCall) → toStep c .driver ≡ toStep e .driver
+    → stepOf (toStep c .driver) (toStep c .read) ≡ stepOf (toStep c .driver) (toStep e .read) → c .back ≡ e .back
+same-step c e same h = c .promise ∙ (h ∙ (ap (λ (d : Driver). stepOf d (toStep e .read)) same ∙ sym (e .promise)))
 
-      by : (t : Bool) → eqb (bitSeven shown) (bitWanted started-command started-word) ≡ t
-          → startedIn started-part (chip cells d)
-          (talk started-part wp n (stepOf (startOf started-part started-command started-address started-word p .driver) read) (chip cells d) .cycles) ≡ o ∷ []
-      by true t =
-          begins-once started-part started-command started-address started-word wp cells d _ (cycle 0 wp (Read at) ∷ []) N p at o
-          (ap (λ (t : Told). t .cycles)
-          (performs started-part started-command started-address started-word p wp cells d accepted whole rests heeded (eqb-true _ _ t) n read (omega arith)))
-          one (one-read-starts started-part 0 wp at)
-      by false t =
-          begins-once started-part started-command started-address started-word wp cells d _ [] (N * 2) p at o
-          (ap (λ (t : Told). t .cycles)
-          (gives-up started-part started-command started-address started-word p wp cells d accepted whole rests heeded (eqb-false _ _ t) n read (omega arith)))
-          one (λ h. refl)
-
-  -- There, where the cell shows the wanted value once the operation has completed (after every erase, and after a program that has no bit to raise), it sends
-  -- its writes, N polls and one confirming read, leaves the operation completed on the cells and the device fresh, and ends with 0 and N polls.
-  pub driver-succeeds : (cells : List ℕ) → length cells ≡ rowOf started-part .cells → (d : Device) → idle d ≡ true
-      → (wp : Bool) → ignored (rowOf started-part) wp started-command started-address ≡ false
-      → shownAfter (rowOf started-part) started-command started-address started-word cells ≡ valueWanted (rowOf started-part) started-command started-word
-      → (n read : ℕ) → writeCount started-command + N + 1 ≤ n
-      → talk started-part wp n (stepOf (x .driver) read) (chip cells d)
-      ≡ told
-      (writeCycles wp (writesOf (rowOf started-part) started-command started-address started-word)
-      ++ (replicate N (cycle p wp (Read (addressOf started-command started-address))) ++ (cycle 0 wp (Read (addressOf started-command started-address)) ∷ [])))
-      (chip (completed (rowOf started-part) started-command started-address started-word cells) freshDevice)
-      (ended (moved (started-as started-part started-command started-address started-word p) Polling N) Done)
-  driver-succeeds cells whole d rests wp heeded same n read enough =
-      rw promise (succeeds started-part started-command started-address started-word p wp cells d accepted whole rests heeded same n read enough)
-
-  -- Whatever is replied (f), a dead chip's constant among it, a started driver has ended after 6 + 2N + 1 cycles, 4 + 2N + 1 for a program: `Ended` says how.
-  pub driver-ends : (wp : Bool) (f : ℕ → ℕ) (read n : ℕ) → writeCount started-command + N * 2 + 1 ≤ n
-      → Ended started-part started-command p (heard wp f n (stepOf (x .driver) read))
-  driver-ends wp f read n enough = rw promise (always-ends started-part started-command started-address started-word p accepted wp f read n enough)
+-- ---- together
+pub demand-2 : Demand2
+unfolding cycleOf acceptedOf
+demand-2 =
+    record {
+      cycle-acts = λ c accepted. rw (c .promise .0, c .promise .1, eq-eqb (busRefusal (onBus c)) 0 accepted);
+      writes-run = λ c accepted cells d wp i. let g = toWrite c in
+          rw (c .promise, places-are (g .part) (g .command) (g .address) (g .word) accepted)
+          (Theorems.writes-start (g .part) (g .command) (g .address) (g .word) wp cells d accepted (i .whole) (i .rests) (i .heeded) .0);
+      writes-start = λ c accepted cells d wp i. let g = toWrite c in
+          rw (c .promise, places-are (g .part) (g .command) (g .address) (g .word) accepted)
+          (Theorems.writes-start (g .part) (g .command) (g .address) (g .word) wp cells d accepted (i .whole) (i .rests) (i .heeded) .1);
+      driver-starts = λ c accepted cells d wp i read n enough. rw (c .promise) (starts (toStart (c .given)) accepted cells d wp i read n enough);
+      driver-succeeds = λ c accepted cells d wp i same read n enough. let g = toStart (c .given) in
+          rw (c .promise)
+          (Theorems.succeeds (g .part) (g .command) (g .address) (g .word) (g .p) wp cells d accepted (i .whole) (i .rests) (i .heeded) same n read enough);
+      driver-ends = λ c accepted wp f read n enough. let g = toStart (c .given) in
+          rw (c .promise) (Theorems.always-ends (g .part) (g .command) (g .address) (g .word) (g .p) accepted wp f read n enough);
+      value-ignored = λ c e same none. let d = toStep c .driver in let u = toStep c .read in let v = toStep e .read in
+          same-step c e same (in-range d u v (λ _. ignores d u v (d .phase) none));
+      low-bits-count = λ c e same alike. let d = toStep c .driver in let u = toStep c .read in let v = toStep e .read in
+          same-step c e same (in-range d u v (λ z. counts d u v (d .phase) (bits d u v alike z) alike));
+    }

@@ -1,6 +1,5 @@
 pub mod Demand1
 pub mod Demand2
-pub mod Given
 pub mod Demand3
 pub mod Marked
 pub mod Unique

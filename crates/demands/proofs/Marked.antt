@@ -6,7 +6,7 @@ use mathlib.Core.Bool.{Bool, true, false}
 use mathlib.Core.List.{List, [], _∷_}
 use borrow.Author.Tests.{eqb-true}
 use lib.Dec.{eqb}
-use lib.ListN.{length, replicate, length-set, length-replicate}
+use lib.ListN.{length, set, replicate, length-set, length-replicate}
 use Rattle.parts.specs.Pick.{pick}
 use Rattle.parts.specs.Width.{fitsIn, sectorSize}
 use Rattle.parts.specs.Table.{rowOf, partRefusal}
@@ -24,10 +24,11 @@ use Rattle.chip.specs.Trace.{leaves, after}
 use Rattle.driver.specs.Writes.{lastWrite}
 use Rattle.job.specs.Total.{totalOf}
 use Rattle.job.specs.Refusal.{fitAll, meets, protectionRefusal, rangeRefusal, jobRefusal}
+use Rattle.driver.specs.Machine.{confirmAfter}
 use Rattle.job.specs.Bill.{jobOf, fullOf, Loaded}
 use Rattle.invoice.proofs.Listed.{filling, looking}
 use Rattle.invoice.proofs.Loads.{deciding, decidingAll, reckoned, loads}
-use Rattle.demands.specs.Marked.{Case, Marked, Bus, Load, Ran, cases, imageOf, blankBench, loadSixth, afterJobs, sameBill, further, ran, asSaid, before, holdsCase, holdsMarked}
+use Rattle.demands.specs.Marked.{Cell, Case, Marked, Bus, Load, Ran, cases, holding, imageOf, blankBench, loadSixth, afterJobs, sameBill, further, ran, asSaid, before, holdsCase, holdsMarked}
 use Rattle.chip.proofs.Ranges.{after-length}
 
 -- a cycle on cells that are known to be n
@@ -56,12 +57,17 @@ on-ran n part (c ∷ cs) h e =
 holdsOn : Case → Bool
 holdsOn k = asSaid k (ranOn (rowOf (k .part) .cells) (k .part) (chip (before k) freshDevice) (k .cycles))
 
+-- the number of cells does not change where some hold something else
+held-length : (cells : List ℕ) (ls : List Cell) → length (holding cells ls) ≡ length cells
+held-length cells [] = refl
+held-length cells (l ∷ ls) = held-length (set cells (l .at) (l .value)) ls ∙ length-set cells (l .at) (l .value)
+
 on-case : (k : Case) → holdsCase k ≡ holdsOn k
 unfolding holdsOn
 on-case k =
     ap (asSaid k)
     (on-ran (rowOf (k .part) .cells) (k .part) (k .cycles) (chip (before k) freshDevice)
-    (length-set (replicate (rowOf (k .part) .cells) (k .fill)) (k .but .at) (k .but .value) ∙ length-replicate (rowOf (k .part) .cells) (k .fill)))
+    (held-length (replicate (rowOf (k .part) .cells) (k .fill)) (k .but) ∙ length-replicate (rowOf (k .part) .cells) (k .fill)))
 
 -- ---- jobs, reckoned from their operations
 -- a job of the bench, reckoned
@@ -94,27 +100,27 @@ on-jobs (x ∷ xs) cells a =
 -- ---- the list
 computes : Marked → Bool
 computes (Bus k) = holdsOn k
-computes (Load earlier sixth b) =
-    pick (acceptsAll blankBench earlier)
-    (pick (accepts (reckonAll blankBench earlier) sixth) (sameBill (reckon (reckonAll blankBench earlier) sixth .bill) b) false)
+computes (Load k) =
+    pick (acceptsAll blankBench (k .earlier))
+    (pick (accepts (reckonAll blankBench (k .earlier)) (k .sixth)) (sameBill (reckon (reckonAll blankBench (k .earlier)) (k .sixth) .bill) (k .bill)) false)
     false
 
 on-marked : (k : Marked) → computes k ≡ true → holdsMarked k ≡ true
 unfolding computes
 on-marked (Bus k) c = on-case k ∙ c
-on-marked (Load earlier sixth b) c =
-    let e = both (acceptsAll blankBench earlier) _ c in
-    let f = both (accepts (reckonAll blankBench earlier) sixth) _ (e .1) in
-    let cells = on-jobs earlier blankBench (e .0) in
-    ap (λ (l : List ℕ). sameBill (loadSixth l sixth .bill) b) cells
-    ∙ (ap (λ (l : Loaded). sameBill (l .bill) b) (on-job (reckonAll blankBench earlier) sixth (f .0)) ∙ f .1)
+on-marked (Load k) c =
+    let cells = reckonAll blankBench (k .earlier) in
+    let e = both (acceptsAll blankBench (k .earlier)) _ c in
+    let f = both (accepts cells (k .sixth)) _ (e .1) in
+    ap (λ (l : List ℕ). sameBill (loadSixth l (k .sixth) .bill) (k .bill)) (on-jobs (k .earlier) blankBench (e .0))
+    ∙ (ap (λ (l : Loaded). sameBill (l .bill) (k .bill)) (on-job cells (k .sixth) (f .0)) ∙ f .1)
 
 on-every : (ks : List Marked) → every computes ks ≡ true → every holdsMarked ks ≡ true
 on-every [] c = refl
 on-every (k ∷ ks) c = let b = both (computes k) (every computes ks) c in rw (on-marked k (b .0)) (on-every ks (b .1))
 
 computed : every computes cases ≡ true
-unfolding computes holdsOn ranOn cycleOn reckon reckonAll accepts acceptsAll rowOf partRefusal fitsIn sectorSize holdsb hasBlocks sectorOf blockOf protectedOf hasCommand timeOf validOperation coreInRange stageInRange deviceInRange cellsOf completeOn cutOn effectOf ignored writtenOf actionRefusal cycleRefusal settledOf readOf cutOf acceptedOf lastWrite roundedUp fitAll meets protectionRefusal rangeRefusal jobRefusal totalOf fullOf filling looking deciding decidingAll
+unfolding computes holdsOn ranOn cycleOn reckon reckonAll accepts acceptsAll rowOf partRefusal fitsIn sectorSize holdsb hasBlocks sectorOf blockOf protectedOf hasCommand timeOf validOperation coreInRange stageInRange deviceInRange cellsOf completeOn cutOn effectOf ignored writtenOf actionRefusal cycleRefusal settledOf readOf cutOf acceptedOf lastWrite roundedUp fitAll meets protectionRefusal rangeRefusal jobRefusal totalOf confirmAfter fullOf filling looking deciding decidingAll
 computed = refl
 
 -- Every marked case of the list holds of the definitions that the promises of bus_cycle and load cite.

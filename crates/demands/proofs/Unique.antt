@@ -1,24 +1,45 @@
--- For every input a promise determines the full result and each lent cell afterwards, refusals too: of each exported function, any two outcomes that its
--- promise allows are equal. Stated on the promises as they are made from the source, in the crates that export the functions; gathered here, one name a function.
-pub use Rattle.parts.proofs.Determined.{
-  part-row-unique,
-  part-figure-unique,
-  value-unique,
-  blank-unique,
-  fits-unique,
-  sector-size-unique,
-  sector-of-unique,
-  has-blocks-unique,
-  block-of-unique,
-  protected-range-unique,
-  holds-unique,
-  time-unique,
-  has-command-unique,
-  rounded-up-unique,
-}
-pub use Rattle.commands.proofs.Determined.{effect-of-unique}
-pub use Rattle.chip.proofs.Determined.{fresh-unique, bus-cycle-unique}
-pub use Rattle.driver.proofs.Determined.{start-unique, step-unique, command-writes-unique, kth-write-unique}
-pub use Rattle.job.proofs.Determined.{load-unique, load-first-unique}
-pub use Rattle.jobfile.proofs.Determined.{read-job-unique, read-image-unique}
-pub use Rattle.station.proofs.Determined.{figure-unique, answer-unique, write-address-unique, write-data-unique, write-answer-unique}
+-- Every promise determines its outcome. What is proved stands in specs/Unique.antt; each is proved in the crate that exports the function.
+use Rattle.parts.proofs.Determined as parts
+use Rattle.commands.proofs.Determined as commands
+use Rattle.chip.proofs.Determined as chip
+use Rattle.driver.proofs.Determined as driver
+use Rattle.job.proofs.Determined as job
+use Rattle.jobfile.proofs.Determined as jobfile
+use Rattle.station.proofs.Determined as station
+use Rattle.demands.specs.Unique.{Unique}
+
+pub unique : Unique
+unique =
+    record {
+      value = parts.value-unique;
+      blank = parts.blank-unique;
+      fits = parts.fits-unique;
+      part-row = parts.part-row-unique;
+      part-figure = parts.part-figure-unique;
+      span-holds = parts.holds-unique;
+      sector-size = parts.sector-size-unique;
+      sector-of = parts.sector-of-unique;
+      has-blocks = parts.has-blocks-unique;
+      block-of = parts.block-of-unique;
+      protected-range = parts.protected-range-unique;
+      time = parts.time-unique;
+      has-command = parts.has-command-unique;
+      rounded-up = parts.rounded-up-unique;
+      effect-of = commands.effect-of-unique;
+      fresh = chip.fresh-unique;
+      bus-cycle = chip.bus-cycle-unique;
+      start = driver.start-unique;
+      start-writing = driver.start-writing-unique;
+      step = driver.step-unique;
+      command-writes = driver.command-writes-unique;
+      kth-write = driver.kth-write-unique;
+      load = job.load-unique;
+      load-first = job.load-first-unique;
+      read-job = jobfile.read-job-unique;
+      read-image = jobfile.read-image-unique;
+      station-figure = station.figure-unique;
+      station-figure-answer = station.answer-unique;
+      station-write-address = station.write-address-unique;
+      station-write-data = station.write-data-unique;
+      station-write-answer = station.write-answer-unique;
+    }

@@ -4,54 +4,55 @@ use mathlib.Core.Bool.{Bool, true, false, not}
 use mathlib.Core.List.{List, [], _∷_, _++_}
 use lib.Dec.{eqb}
 use lib.ListN.{getD, set, replicate}
-use Rattle.parts.specs.Pick.{pick}
+use Rattle.parts.specs.Pick.{pick, _unless_, _else_}
 use Rattle.parts.specs.Table.{rowOf}
 use Rattle.chip.specs.declared.cycle.Action.{Action}
 use Rattle.chip.specs.declared.cycle.Action.the-variants.{Read, Write, Idle, Cut}
 use Rattle.chip.specs.declared.cycle.Cycle.{Cycle}
 use Rattle.chip.specs.declared.cycle.Reply.{Reply}
 use Rattle.chip.specs.Device.{freshDevice, busy}
-use Rattle.chip.specs.Cycle.{Chip, chip, Outcome, cycleOf}
+use Rattle.chip.specs.Cycle.{cycle, Chip, chip, Outcome, cycleOf}
 use Rattle.chip.specs.Trace.{leaves}
+use Rattle.driver.specs.Reads.{isRead}
 use Rattle.job.specs.declared.bill.Bill.{Bill}
 use Rattle.job.specs.Bill.{Loaded, loadOf}
 
--- ---- a case of bus cycles: a part whose cells all hold `fill` but one, cycles from a fresh device, and what they show and leave
+-- ---- a case of bus cycles
+-- a cell by its address, and what it holds
 pub record Cell : Type 0 where
   pub at : ℕ
   pub value : ℕ
 
+abbrev pub cell : ℕ → ℕ → Cell
+cell a v = record { at = a; value = v }
+
 pub record Case : Type 0 where
+  -- before: the part, what all its cells hold, but those listed; the device is fresh
   pub part : ℕ
   pub fill : ℕ
-  pub but : Cell
+  pub but : List Cell
+  -- the cycles sent
   pub cycles : List Cycle
-  -- the values of the reads, in order; some of the cells at the end; whether an operation is pending then
+  -- after: the values of the reads among them, in order; what some of the cells hold; whether an operation is pending
   pub reads : List ℕ
   pub cells : List Cell
   pub pending : Bool
 
-abbrev pub cell : ℕ → ℕ → Cell
-cell a v = record { at = a; value = v }
-
-abbrev pub case : ℕ → ℕ → Cell → List Cycle → List ℕ → List Cell → Bool → Case
-case n f b cs rs ls p = record { part = n; fill = f; but = b; cycles = cs; reads = rs; cells = ls; pending = p }
-
 -- ---- cycles: writes with WP# high at 0 µs, reads and others after some µs
 abbrev pub write : ℕ → ℕ → Cycle
-write a x = record { elapsed = 0; wp = true; action = Write a x }
+write a x = cycle 0 true (Write a x)
 
 abbrev pub writeLow : ℕ → ℕ → Cycle
-writeLow a x = record { elapsed = 0; wp = false; action = Write a x }
+writeLow a x = cycle 0 false (Write a x)
 
 abbrev pub read : ℕ → ℕ → Cycle
-read e a = record { elapsed = e; wp = true; action = Read a }
+read e a = cycle e true (Read a)
 
 abbrev pub idleFor : ℕ → Cycle
-idleFor e = record { elapsed = e; wp = true; action = Idle }
+idleFor e = cycle e true Idle
 
 abbrev pub cut : ℕ → Cycle
-cut s = record { elapsed = 0; wp = true; action = Cut s }
+cut s = cycle 0 true (Cut s)
 
 -- the writes in front of a program's data and of an erase's last write, at unlock addresses u and v
 abbrev pub arm : ℕ → ℕ → List Cycle
@@ -60,7 +61,14 @@ arm u v = write u 0xaa ∷ write v 0x55 ∷ write u 0xa0 ∷ []
 abbrev pub unlock : ℕ → ℕ → List Cycle
 unlock u v = write u 0xaa ∷ write v 0x55 ∷ write u 0x80 ∷ write u 0xaa ∷ write v 0x55 ∷ []
 
--- ---- a case of jobs on a blank bench, WP# high, first 0, p 10: images of 2,048 values, all FFFFH but the sixth
+-- ---- a case of jobs: on a blank bench, WP# high, first 0, 2,048 values, p 10, all FFFFH but the sixth
+pub record JobCase : Type 0 where
+  -- the sixth values of jobs before it, and its own
+  pub earlier : List ℕ
+  pub sixth : ℕ
+  -- what it hands back
+  pub bill : Bill
+
 abbrev pub imageOf : ℕ → List ℕ
 imageOf sixth = set (replicate 2048 0xffff) 5 sixth
 
@@ -71,55 +79,255 @@ blankBench = replicate 8192 0xffff
 abbrev pub loadSixth : List ℕ → ℕ → Loaded
 loadSixth cells sixth = loadOf 0 cells 0 (imageOf sixth) true 10
 
--- saved, spent, erases, programs, polls, scans, confirms, sum; answer 0
-abbrev pub bill : ℕ → ℕ → ℕ → ℕ → ℕ → ℕ → ℕ → ℕ → Bill
-bill saved spent erases programs polls scans confirms sum =
-    record { saved = saved; spent = spent; erases = erases; programs = programs; polls = polls; scans = scans; confirms = confirms; sum = sum; answer = 0 }
+-- ---- the cases, by document 01's numbers
+-- 1: erase unlock, 50H at 2,053: on part 9 the sector 2,048 to 4,095
+abbrev pub case-1-sector : Case
+case-1-sector =
+    record {
+      part = 9;
+      fill = 0;
+      but = [];
+      cycles = unlock 0x555 0x2aa ++ (write 2053 0x50 ∷ idleFor 18000 ∷ []);
+      reads = [];
+      cells = cell 2047 0 ∷ cell 2048 0xffff ∷ cell 4095 0xffff ∷ cell 4096 0 ∷ [];
+      pending = false;
+    }
 
--- a marked case: bus cycles; or a job with this sixth value, after jobs with those before it, and its bill
+-- 1: on part 7 the block 0 to 32,767
+abbrev pub case-1-block : Case
+case-1-block =
+    record {
+      part = 7;
+      fill = 0;
+      but = [];
+      cycles = unlock 0x5555 0x2aaa ++ (write 2053 0x50 ∷ idleFor 36000 ∷ []);
+      reads = [];
+      cells = cell 0 0xffff ∷ cell 32767 0xffff ∷ cell 32768 0 ∷ [];
+      pending = false;
+    }
+
+-- 2: program 0F0FH over 00F0H: 0000H
+abbrev pub case-2 : Case
+case-2 =
+    record {
+      part = 0;
+      fill = 0xffff;
+      but = cell 7 0x00f0 ∷ [];
+      cycles = arm 0x555 0x2aa ++ (write 7 0x0f0f ∷ idleFor 14 ∷ []);
+      reads = [];
+      cells = cell 6 0xffff ∷ cell 7 0 ∷ cell 8 0xffff ∷ [];
+      pending = false;
+    }
+
+-- 3: program on part 5, 13 µs: busy
+abbrev pub case-3-busy : Case
+case-3-busy =
+    record {
+      part = 5;
+      fill = 0xffff;
+      but = [];
+      cycles = arm 0x5555 0x2aaa ++ (write 7 0x1234 ∷ idleFor 13 ∷ []);
+      reads = [];
+      cells = cell 7 0xffff ∷ [];
+      pending = true;
+    }
+
+-- 3: 14: done
+abbrev pub case-3-done : Case
+case-3-done =
+    record {
+      part = 5;
+      fill = 0xffff;
+      but = [];
+      cycles = arm 0x5555 0x2aaa ++ (write 7 0x1234 ∷ read 14 7 ∷ []);
+      reads = 0x1234 ∷ [];
+      cells = cell 7 0x1234 ∷ [];
+      pending = false;
+    }
+
+-- 4: part 5, programming data 0000H: reads 00C0H, 0080H
+abbrev pub case-4-programming : Case
+case-4-programming =
+    record {
+      part = 5;
+      fill = 0xffff;
+      but = [];
+      cycles = arm 0x5555 0x2aaa ++ (write 7 0 ∷ read 1 7 ∷ read 1 7 ∷ []);
+      reads = 0x00c0 ∷ 0x0080 ∷ [];
+      cells = [];
+      pending = true;
+    }
+
+-- 4: erasing: 0040H, 0000H
+abbrev pub case-4-erasing : Case
+case-4-erasing =
+    record {
+      part = 5;
+      fill = 0;
+      but = [];
+      cycles = unlock 0x5555 0x2aaa ++ (write 7 0x30 ∷ read 1 7 ∷ read 1 7 ∷ []);
+      reads = 0x0040 ∷ 0 ∷ [];
+      cells = [];
+      pending = true;
+    }
+
+-- 5: AAH, AAH at U1, 55H at U2, A0H at U1: nothing armed
+abbrev pub case-5 : Case
+case-5 =
+    record {
+      part = 0;
+      fill = 0xffff;
+      but = [];
+      cycles = write 0x555 0xaa ∷ write 0x555 0xaa ∷ write 0x2aa 0x55 ∷ write 0x555 0xa0 ∷ write 7 0 ∷ read 14 7 ∷ [];
+      reads = 0xffff ∷ [];
+      cells = cell 7 0xffff ∷ [];
+      pending = false;
+    }
+
+-- 6: part 9 takes 5555H as 555H
+abbrev pub case-6 : Case
+case-6 =
+    record {
+      part = 9;
+      fill = 0xffff;
+      but = [];
+      cycles = arm 0x5555 0x2aaa ++ (write 7 0x1234 ∷ read 7 7 ∷ []);
+      reads = 0x1234 ∷ [];
+      cells = cell 7 0x1234 ∷ [];
+      pending = false;
+    }
+
+-- 7: bench, WP# low: program at 4,095 ignored
+abbrev pub case-7-ignored : Case
+case-7-ignored =
+    record {
+      part = 0;
+      fill = 0xffff;
+      but = [];
+      cycles = arm 0x555 0x2aa ++ (writeLow 4095 0 ∷ read 0 4095 ∷ []);
+      reads = 0xffff ∷ [];
+      cells = cell 4095 0xffff ∷ [];
+      pending = false;
+    }
+
+-- 7: at 4,096 starts
+abbrev pub case-7-starts : Case
+case-7-starts =
+    record {
+      part = 0;
+      fill = 0xffff;
+      but = [];
+      cycles = arm 0x555 0x2aa ++ (writeLow 4096 0 ∷ read 0 4096 ∷ []);
+      reads = 0x00c0 ∷ [];
+      cells = cell 4096 0xffff ∷ [];
+      pending = true;
+    }
+
+-- 8: cut, scar 00FFH: erasing 1234H leaves 12FFH
+abbrev pub case-8-erasing : Case
+case-8-erasing =
+    record {
+      part = 0;
+      fill = 0x1234;
+      but = [];
+      cycles = unlock 0x555 0x2aa ++ (write 7 0x30 ∷ cut 0x00ff ∷ []);
+      reads = [];
+      cells = cell 0 0x12ff ∷ cell 2047 0x12ff ∷ cell 2048 0x1234 ∷ [];
+      pending = false;
+    }
+
+-- 8: so does programming 1234H on blank
+abbrev pub case-8-programming : Case
+case-8-programming =
+    record {
+      part = 0;
+      fill = 0xffff;
+      but = [];
+      cycles = arm 0x555 0x2aa ++ (write 7 0x1234 ∷ cut 0x00ff ∷ []);
+      reads = [];
+      cells = cell 6 0xffff ∷ cell 7 0x12ff ∷ cell 8 0xffff ∷ [];
+      pending = false;
+    }
+
+-- 9: part 3 identifies as BFH, B7H
+abbrev pub case-9 : Case
+case-9 =
+    record {
+      part = 3;
+      fill = 0;
+      but = [];
+      cycles = write 0x5555 0xaa ∷ write 0x2aaa 0x55 ∷ write 0x5555 0x90 ∷ read 0 0 ∷ read 0 1 ∷ [];
+      reads = 0xbf ∷ 0xb7 ∷ [];
+      cells = [];
+      pending = false;
+    }
+
+-- 10: the sixth 1234H
+abbrev pub case-10 : JobCase
+case-10 =
+    record {
+      earlier = [];
+      sixth = 0x1234;
+      bill =
+          record {
+            saved = 58940;
+            spent = 20;
+            erases = 0;
+            programs = 1;
+            polls = 2;
+            scans = 4096;
+            confirms = 1;
+            sum = 2613;
+            answer = 0;
+          };
+    }
+
+-- 11: then, on the cells that case 10 left, the sixth 1235H
+abbrev pub case-11 : JobCase
+case-11 =
+    record {
+      earlier = 0x1234 ∷ [];
+      sixth = 0x1235;
+      bill =
+          record {
+            saved = 40940;
+            spent = 18020;
+            erases = 1;
+            programs = 1;
+            polls = 1802;
+            scans = 2048;
+            confirms = 2;
+            sum = 2614;
+            answer = 0;
+          };
+    }
+
 pub data Marked : Type 0 where
   Bus : Case → Marked
-  Load : List ℕ → ℕ → Bill → Marked
+  Load : JobCase → Marked
 
--- ---- the cases, by document 01's numbers
+-- the one list
 abbrev pub cases : List Marked
 cases =
-    -- 1: erase unlock, 50H at 2,053: part 9 the sector 2,048 to 4,095, part 7 the block 0 to 32,767
-    Bus (case 9 0 (cell 0 0) (unlock 0x555 0x2aa ++ (write 2053 0x50 ∷ idleFor 18000 ∷ [])) [] (cell 2047 0 ∷ cell 2048 0xffff ∷ cell 4095 0xffff ∷ cell 4096 0 ∷ []) false)
-    ∷ Bus (case 7 0 (cell 0 0) (unlock 0x5555 0x2aaa ++ (write 2053 0x50 ∷ idleFor 36000 ∷ [])) [] (cell 0 0xffff ∷ cell 32767 0xffff ∷ cell 32768 0 ∷ []) false)
-    -- 2: program 0F0FH over 00F0H: 0000H
-    ∷ Bus (case 0 0xffff (cell 7 0x00f0) (arm 0x555 0x2aa ++ (write 7 0x0f0f ∷ idleFor 14 ∷ [])) [] (cell 6 0xffff ∷ cell 7 0 ∷ cell 8 0xffff ∷ []) false)
-    -- 3: program on part 5, 13 µs: busy; 14: done
-    ∷ Bus (case 5 0xffff (cell 0 0) (arm 0x5555 0x2aaa ++ (write 7 0x1234 ∷ idleFor 13 ∷ [])) [] (cell 7 0xffff ∷ []) true)
-    ∷ Bus (case 5 0xffff (cell 0 0) (arm 0x5555 0x2aaa ++ (write 7 0x1234 ∷ read 14 7 ∷ [])) (0x1234 ∷ []) (cell 7 0x1234 ∷ []) false)
-    -- 4: part 5, programming data 0000H: reads 00C0H, 0080H; erasing: 0040H, 0000H
-    ∷ Bus (case 5 0xffff (cell 0 0) (arm 0x5555 0x2aaa ++ (write 7 0 ∷ read 1 7 ∷ read 1 7 ∷ [])) (0x00c0 ∷ 0x0080 ∷ []) [] true)
-    ∷ Bus (case 5 0 (cell 0 0) (unlock 0x5555 0x2aaa ++ (write 7 0x30 ∷ read 1 7 ∷ read 1 7 ∷ [])) (0x0040 ∷ 0 ∷ []) [] true)
-    -- 5: AAH, AAH at U1, 55H at U2, A0H at U1: nothing armed
-    ∷ Bus (case 0 0xffff (cell 0 0) (write 0x555 0xaa ∷ write 0x555 0xaa ∷ write 0x2aa 0x55 ∷ write 0x555 0xa0 ∷ write 7 0 ∷ read 14 7 ∷ []) (0xffff ∷ []) (cell 7 0xffff ∷ []) false)
-    -- 6: part 9 takes 5555H as 555H
-    ∷ Bus (case 9 0xffff (cell 0 0) (arm 0x5555 0x2aaa ++ (write 7 0x1234 ∷ read 7 7 ∷ [])) (0x1234 ∷ []) (cell 7 0x1234 ∷ []) false)
-    -- 7: bench, WP# low: program at 4,095 ignored, at 4,096 starts
-    ∷ Bus (case 0 0xffff (cell 0 0) (arm 0x555 0x2aa ++ (writeLow 4095 0 ∷ read 0 4095 ∷ [])) (0xffff ∷ []) (cell 4095 0xffff ∷ []) false)
-    ∷ Bus (case 0 0xffff (cell 0 0) (arm 0x555 0x2aa ++ (writeLow 4096 0 ∷ read 0 4096 ∷ [])) (0x00c0 ∷ []) (cell 4096 0xffff ∷ []) true)
-    -- 8: cut, scar 00FFH: erasing 1234H leaves 12FFH; so does programming 1234H on blank
-    ∷ Bus (case 0 0x1234 (cell 0 0x1234) (unlock 0x555 0x2aa ++ (write 7 0x30 ∷ cut 0x00ff ∷ [])) [] (cell 0 0x12ff ∷ cell 2047 0x12ff ∷ cell 2048 0x1234 ∷ []) false)
-    ∷ Bus (case 0 0xffff (cell 0 0xffff) (arm 0x555 0x2aa ++ (write 7 0x1234 ∷ cut 0x00ff ∷ [])) [] (cell 6 0xffff ∷ cell 7 0x12ff ∷ cell 8 0xffff ∷ []) false)
-    -- 9: part 3 identifies as BFH, B7H
-    ∷ Bus (case 3 0 (cell 0 0) (write 0x5555 0xaa ∷ write 0x2aaa 0x55 ∷ write 0x5555 0x90 ∷ read 0 0 ∷ read 0 1 ∷ []) (0xbf ∷ 0xb7 ∷ []) [] false)
-    -- 10: blank bench, WP# high, first 0, 2,048 values, p 10, all FFFFH but the sixth 1234H
-    ∷ Load [] 0x1234 (bill 58940 20 0 1 2 4096 1 2613)
-    -- 11: then, on the cells that case 10 left, the sixth 1235H
-    ∷ Load (0x1234 ∷ []) 0x1235 (bill 40940 18020 1 1 1802 2048 2 2614)
+    Bus case-1-sector
+    ∷ Bus case-1-block
+    ∷ Bus case-2
+    ∷ Bus case-3-busy
+    ∷ Bus case-3-done
+    ∷ Bus case-4-programming
+    ∷ Bus case-4-erasing
+    ∷ Bus case-5
+    ∷ Bus case-6
+    ∷ Bus case-7-ignored
+    ∷ Bus case-7-starts
+    ∷ Bus case-8-erasing
+    ∷ Bus case-8-programming
+    ∷ Bus case-9
+    ∷ Load case-10
+    ∷ Load case-11
     ∷ []
 
 -- ---- a case holds: every cycle is accepted, and what is shown and left is as it says
-abbrev pub isRead : Action → Bool
-isRead (Read a) = true
-isRead (Write a x) = false
-isRead Idle = false
-isRead (Cut s) = false
-
 -- whether every cycle is accepted, the values of the reads among them, and the chip at the end
 pub record Ran : Type 0 where
   pub accepted : Bool
@@ -131,7 +339,12 @@ shows a r vs = pick (isRead a) (r .value ∷ vs) vs
 
 -- one cycle in front of others
 abbrev pub further : Cycle → Outcome → Ran → Ran
-further c o r = record { accepted = pick (eqb (o .reply .answer) 0) (r .accepted) false; reads = shows (c .action) (o .reply) (r .reads); chip = r .chip }
+further c o r =
+    record {
+      accepted = pick (eqb (o .reply .answer) 0) (r .accepted) false;
+      reads = shows (c .action) (o .reply) (r .reads);
+      chip = r .chip;
+    }
 
 abbrev pub ran : ℕ → Chip → List Cycle → Ran
 ran part h [] = record { accepted = true; reads = []; chip = h }
@@ -155,13 +368,19 @@ sameBool false b = not b
 
 abbrev pub asSaid : Case → Ran → Bool
 asSaid k r =
-    pick (r .accepted)
-    (pick (sameList (r .reads) (k .reads)) (pick (holdsAll (r .chip .cells) (k .cells)) (sameBool (busy (r .chip .device .core)) (k .pending)) false) false)
-    false
+    false unless r .accepted
+    else false unless sameList (r .reads) (k .reads)
+    else false unless holdsAll (r .chip .cells) (k .cells)
+    else sameBool (busy (r .chip .device .core)) (k .pending)
+
+-- cells in which some hold something else
+abbrev pub holding : List ℕ → List Cell → List ℕ
+holding cells [] = cells
+holding cells (l ∷ ls) = holding (set cells (l .at) (l .value)) ls
 
 -- the cells before
 abbrev pub before : Case → List ℕ
-before k = set (replicate (rowOf (k .part) .cells) (k .fill)) (k .but .at) (k .but .value)
+before k = holding (replicate (rowOf (k .part) .cells) (k .fill)) (k .but)
 
 abbrev pub holdsCase : Case → Bool
 holdsCase k = asSaid k (ran (k .part) (chip (before k) freshDevice) (k .cycles))
@@ -180,4 +399,4 @@ sameBill a b =
 -- a marked case holds
 abbrev pub holdsMarked : Marked → Bool
 holdsMarked (Bus k) = holdsCase k
-holdsMarked (Load earlier sixth b) = sameBill (loadSixth (afterJobs blankBench earlier) sixth .bill) b
+holdsMarked (Load k) = sameBill (loadSixth (afterJobs blankBench (k .earlier)) (k .sixth) .bill) (k .bill)

@@ -1,23 +1,28 @@
 -- What an accepted start hands back.
-use Prim.Native.Nat.{ℕ, _≤_}
+use Prim.Native.Nat.{ℕ, _≤_, _<_}
 use mathlib.Core.Path.{_≡_, refl, ap, sym, _∙_}
 use mathlib.Core.Bool.{Bool, true, false}
-use borrow.Author.Tests.{eq-eqb, ne-eqb, eqb-true}
-use lib.Dec.{eqb, ltb}
+use native.Mathlib.Omega.{arith}
+use borrow.Author.Tests.{eq-eqb, ne-eqb, eqb-true, lt-ltb}
+use lib.Dec.{eqb}
 use Rattle.parts.specs.Pick.{pick}
-use Rattle.parts.specs.Table.{rowOf}
+use Rattle.parts.specs.Table.{rowOf, foundOf}
 use Rattle.parts.proofs.Every.{split}
 use Rattle.parts.specs.Width.{blankOf}
 use Rattle.parts.specs.declared.table.Row.{Row}
+use Rattle.parts.specs.declared.table.Found.{Found}
 use Rattle.chip.specs.Sequence.{ignored}
 use Rattle.driver.proofs.Commands.{command-le, four}
-use Rattle.driver.specs.declared.machine.Phase.the-variants.{Writing}
 use Rattle.driver.specs.declared.machine.Started.{Started}
+use Rattle.driver.specs.declared.machine.Next.the-variants.{Nothing}
 use Rattle.driver.specs.Refusals.{startRefusal}
 use Rattle.driver.specs.Writes.{lastWrite, writesOf, writeCount}
-use Rattle.driver.specs.Machine.{addressOf, dataOf, bitSeven, bitWanted, valueWanted, begun, startOf, inRange}
+use Rattle.driver.specs.Machine.{addressOf, dataOf, bitSeven, bitWanted, valueWanted, begun, startOf, inRange, step, writingOf, startWriting}
+use Rattle.driver.specs.Fits.{CodesAndTimesFit}
 use Rattle.driver.proofs.Asked.{beginning}
 use Rattle.driver.proofs.Asked as asks
+use Rattle.driver.proofs.Ready.{write-count-some, writing-count, usual-row}
+use Rattle.driver.proofs.Steps.{goes}
 
 -- ---- what is kept of the address and the data asks for the same
 pub kept-address : (command a : ℕ) → addressOf command (addressOf command a) ≡ addressOf command a
@@ -76,17 +81,36 @@ module _ (part command a x p : ℕ) (accepted : startRefusal part command a x p 
       })
 
   pub start-range : inRange (begun part command a x p) ≡ true
-  unfolding inRange writeCount
-  start-range = rw kept-accepted (split (λ (n : ℕ). ltb 0 n ≡ true) (eqb command 0) 4 6 (λ _. refl) (λ _. refl))
+  unfolding inRange
+  start-range = rw kept-accepted (lt-ltb 0 (writeCount command) (omega (arith, write-count-some command)))
 
--- ---- what a start that answers 0 hands back: a driver in range that has named nothing
+-- ---- what a start hands back: where it answers 0, a driver that may name its first write
 answered : (part command a x p : ℕ) → startOf part command a x p .answer ≡ startRefusal part command a x p
 unfolding startOf
 answered part command a x p =
     split (λ (s : Started). s .answer ≡ startRefusal part command a x p) (eqb (startRefusal part command a x p) 0) _ _ (λ t. sym (eqb-true _ 0 t)) (λ _. refl)
 
-pub is-begun : (part command a x p : ℕ) (s : Started) → s ≡ startOf part command a x p → s .answer ≡ 0
-    → (inRange (s .driver) ≡ true) × ((s .driver .phase ≡ Writing) × (s .driver .count ≡ 0))
-is-begun part command a x p s e z =
-    let n : startRefusal part command a x p ≡ 0 = sym (answered part command a x p) ∙ (sym (ap (λ (s : Started). s .answer) e) ∙ z) in
-    rw (e ∙ started part command a x p n) (start-range part command a x p n, (refl, refl))
+module _ (part command a x p : ℕ) (s : Started) (f : Found) (e : s ≡ startOf part command a x p) (found : f ≡ foundOf part) where
+  module _ (z : s .answer ≡ 0) where
+    accepts : startRefusal part command a x p ≡ 0
+    accepts = sym (answered part command a x p) ∙ (sym (ap (λ (s : Started). s .answer) e) ∙ z)
+
+    begins : s ≡ record { answer = 0; driver = begun part command a x p }
+    begins = e ∙ started part command a x p accepts
+
+    row : f .row ≡ rowOf part
+    row = ap (λ (f : Found). f .row) found
+
+    pub may-write : CodesAndTimesFit (f .row) × (s .driver .count < writeCount (s .driver .command))
+    may-write =
+        let b = begun part command a x p in
+        let i = start-range part command a x p accepts in
+        rw begins (usual-row b (f .row) i row, writing-count b i refl)
+
+    pub writes-first : writingOf (f .row) (s .driver) ≡ startWriting part command a x p
+    unfolding startWriting
+    writes-first = rw (row, ← e, begins) (sym (goes (begun part command a x p) 0 (start-range part command a x p accepts)))
+
+  pub refuses-writing : (s .answer ≡ 0 → ⊥) → step (s .answer) (s .driver) Nothing 0 ≡ startWriting part command a x p
+  unfolding startWriting
+  refuses-writing n = rw (← e, ne-eqb (s .answer) 0 n)

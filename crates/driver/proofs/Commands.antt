@@ -24,12 +24,12 @@ use Rattle.chip.specs.declared.cycle.Action.the-variants.{Write as Writes}
 use Rattle.chip.specs.Device.{busyWith, busy, device}
 use Rattle.commands.specs.Commands.{effectOf}
 use Rattle.chip.specs.Sequence.{ignored, newOperation}
-use Rattle.chip.specs.Cycle.{chip}
+use Rattle.chip.specs.Cycle.{cycle, chip}
 use Rattle.chip.proofs.Cases.{write-leaves, write-starts}
 use Rattle.chip.proofs.Started.{Moves, Leads, stays, then}
 use Rattle.commands.specs.declared.write.Write.{Write}
 use Rattle.driver.specs.Writes.{lastWrite, writesOf}
-use Rattle.driver.specs.Talk.{cycle, writeCycle, writeCycles, operationOf}
+use Rattle.driver.specs.Talk.{writeCycle, writeCycles, operationOf}
 use Rattle.driver.proofs.Asked.{Target}
 
 -- the commands of a part are four

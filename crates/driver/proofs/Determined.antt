@@ -7,6 +7,8 @@ use Rattle.driver.proofs.writes.kth_write.Kinds as kth-write-kinds
 use Rattle.driver.proofs.writes.kth_write.Reads as kth-write-reads
 use Rattle.driver.proofs.machine.start.Kinds as start-kinds
 use Rattle.driver.proofs.machine.start.Reads as start-reads
+use Rattle.driver.proofs.machine.start_writing.Kinds as start-writing-kinds
+use Rattle.driver.proofs.machine.start_writing.Reads as start-writing-reads
 use Rattle.driver.proofs.machine.Driver.step.Kinds as step-kinds
 use Rattle.driver.proofs.machine.Driver.step.Reads as step-reads
 
@@ -18,6 +20,9 @@ kth-write-unique κs a x y s t p q = p ∙ sym q
 
 pub start-unique : Unique start-kinds.ps start-kinds.r start-reads.Post
 start-unique κs a x y s t p q = p ∙ sym q
+
+pub start-writing-unique : Unique start-writing-kinds.ps start-writing-kinds.r start-writing-reads.Post
+start-writing-unique κs a x y s t p q = p ∙ sym q
 
 pub step-unique : Unique step-kinds.ps step-kinds.r step-reads.Post
 step-unique κs a x y s t p q = p ∙ sym q

@@ -2,11 +2,13 @@ pub mod Asked
 pub mod Places
 pub mod Nth
 pub mod Ready
+pub mod Kth
 pub mod Polls
 pub mod Steps
+pub mod Talks
+pub mod Named
 pub mod Within
 pub mod Commands
-pub mod Talks
 pub mod Shown
 pub mod Begins
 pub mod Theorems

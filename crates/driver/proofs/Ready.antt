@@ -17,11 +17,11 @@ use Rattle.driver.specs.declared.machine.Driver.{Driver}
 use Rattle.driver.specs.Refusals.{startRefusal}
 use Rattle.driver.specs.Writes.{writeCount}
 use Rattle.driver.specs.Machine.{countFits, inRange, mostPolls}
-use Rattle.driver.specs.Usual.{Usual}
+use Rattle.driver.specs.Fits.{CodesAndTimesFit}
 use Rattle.driver.proofs.Asked.{Begun, begun}
 
 -- a known part's row
-pub usual : (n : ℕ) → partRefusal n ≡ 0 → Usual (rowOf n)
+pub usual : (n : ℕ) → partRefusal n ≡ 0 → CodesAndTimesFit (rowOf n)
 unfolding timeOf
 usual n k = record { sector = omega (arith, sector-byte n k); block = omega (arith, block-byte n k); time = time }
   where
@@ -41,7 +41,7 @@ rounded-le T (suc p) = least T (suc p) (omega arith) T (omega (arith, mul-le-mul
     one : (p : ℕ) → 1 ≤ suc p
     one p = omega arith
 
-pub most-le : (r : Row) (command p : ℕ) → Usual r → mostPolls r command p ≤ 280000
+pub most-le : (r : Row) (command p : ℕ) → CodesAndTimesFit r → mostPolls r command p ≤ 280000
 unfolding mostPolls
 most-le r command p u = omega (arith, rounded-le (timeOf r command) p, u .time command)
 
@@ -67,7 +67,7 @@ writing-count d e f = ltb-true _ _ (rw f at (valid-count d e))
 
 -- with the row that was found
 module _ (d : Driver) (r : Row) (e : inRange d ≡ true) (row : r ≡ rowOf (d .part)) where
-  pub usual-row : Usual r
+  pub usual-row : CodesAndTimesFit r
   usual-row = rw row (usual (d .part) (valid-start d e .asked .known))
 
   pub narrow-row : r .width ≤ 16

@@ -2,7 +2,6 @@
 use Prim.Native.Nat.{ℕ, suc, zero-le, _+_, _-_, _≤_, _<_}
 use mathlib.Core.Path.{_≡_, refl, sym, _∙_}
 use mathlib.Core.Bool.{Bool, true, false}
-use mathlib.Core.List.{List, [], _∷_}
 use native.Mathlib.Omega.{arith}
 use borrow.Author.Tests.{ltb-true, ltb-false, leb-true, eqb-true, le-leb, lt-ltb, eq-eqb}
 use lib.Dec.{eqb, ltb}
@@ -11,7 +10,6 @@ use Rattle.parts.specs.Table.{rowOf}
 use Rattle.parts.proofs.Every.{apart, both, split}
 use Rattle.chip.specs.declared.cycle.Action.{Action}
 use Rattle.chip.specs.declared.cycle.Action.the-variants.{Write}
-use Rattle.chip.specs.declared.cycle.Cycle.{Cycle}
 use Rattle.driver.specs.declared.machine.Phase.{Phase}
 use Rattle.driver.specs.declared.machine.Phase.the-variants.{Writing, Polling, Confirming, Done, GaveUp, Differs}
 use Rattle.driver.specs.declared.machine.Driver.{Driver}
@@ -19,11 +17,9 @@ use Rattle.driver.specs.declared.machine.Next.{Next}
 use Rattle.driver.specs.declared.machine.Next.the-variants.{Nothing, Send}
 use Rattle.driver.specs.declared.machine.Step.{Step}
 use Rattle.driver.specs.Refusals.{startRefusal}
-use Rattle.driver.specs.Writes.{writeCount, kthWrite}
-use Rattle.driver.specs.Machine.{mostPolls, someUpTo, countFits, inRange, moved, step, ending, final, ended, valueWanted, afterWrite, nextWrite, writingOf, polls, confirms, matches, pollingOf, confirmingOf, phaseOf, stepOf}
-use Rattle.driver.specs.Talk.{cycle, pollsIn}
-use Rattle.driver.proofs.Asked.{asking}
-use Rattle.driver.proofs.Ready.{write-count-some, valid-start, valid-count}
+use Rattle.driver.specs.Writes.{writeCount}
+use Rattle.driver.specs.Machine.{mostPolls, someUpTo, countFits, inRange, moved, step, ending, final, writing, confirmed, ended, valueWanted, afterWrite, nextWrite, writingOf, polls, confirms, matches, pollingOf, confirmingOf, phaseOf, stepOf}
+use Rattle.driver.proofs.Ready.{valid-count}
 
 -- a step of a state in range, and of one that is not
 pub goes : (d : Driver) (read : ℕ) → inRange d ≡ true → stepOf d read ≡ phaseOf (rowOf (d .part)) (d .phase) d read
@@ -40,15 +36,6 @@ pub moved-in-range : (d : Driver) (f : Phase) (n : ℕ) → inRange d ≡ true
 unfolding inRange
 moved-in-range d f n e c = rw (both (eqb (startRefusal (d .part) (d .command) (d .address) (d .«data») (d .p)) 0) _ e .0) c
 
--- a driver's first step names the command's write 0
-pub first-step : (d : Driver) → inRange d ≡ true → d .phase ≡ Writing → d .count ≡ 0
-    → stepOf d 0 ≡ step 0 (moved d Writing 1) (Send 0 (Write (kthWrite (d .part) (d .command) (d .address) (d .«data») 0 .address) (kthWrite (d .part) (d .command) (d .address) (d .«data») 0 .«data»))) 0
-unfolding writingOf afterWrite kthWrite
-first-step d e f z =
-    let n = writeCount (d .command) in
-    let h = write-count-some (d .command) in
-    goes d 0 e ∙ simp (f, z, lt-ltb 1 n (omega (arith, h)), lt-ltb 0 n (omega (arith, h)), eq-eqb _ 0 (asking _ _ _ _ (valid-start d e .asked)))
-
 -- ---- the ways that a step can go
 -- the polls named before a phase's count
 abbrev pub pollsAt : Phase → ℕ → ℕ
@@ -63,14 +50,18 @@ pollsAt Differs n = n
 abbrev pub most : Driver → ℕ
 most d = mostPolls (rowOf (d .part)) (d .command) (d .p)
 
+-- the write that comes next
+abbrev pub writeNext : Driver → Action
+writeNext d = Write (nextWrite (rowOf (d .part)) d .address) (nextWrite (rowOf (d .part)) d .«data»)
+
 -- refused; a write, or the last one; a poll; the confirming read; or an end
 pub data Way (d : Driver) : Step → Type 0 where
   refused : inRange d ≡ false → Way d (step 5 d Nothing 0)
-  writes : (a x : ℕ) → d .phase ≡ Writing → d .count + 1 < writeCount (d .command) → Way d (step 0 (moved d Writing (d .count + 1)) (Send 0 (Write a x)) 0)
-  wrote : (a x : ℕ) → d .phase ≡ Writing → d .count < writeCount (d .command) → Way d (step 0 (moved d Polling 0) (Send 0 (Write a x)) 0)
+  writes : d .phase ≡ Writing → d .count + 1 < writeCount (d .command) → Way d (step 0 (moved d Writing (d .count + 1)) (Send 0 (writeNext d)) 0)
+  wrote : d .phase ≡ Writing → d .count + 1 ≡ writeCount (d .command) → Way d (step 0 (moved d Polling 0) (Send 0 (writeNext d)) 0)
   waits : d .phase ≡ Polling → d .count < most d → Way d (polls d)
   matched : d .phase ≡ Polling → 0 < d .count → d .count ≤ most d → Way d (confirms d)
-  ends : (f : Phase) → inRange d ≡ true → final f ≡ true → pollsAt (d .phase) (d .count) ≡ d .count → countFits f (writeCount (d .command)) (most d) (d .count) ≡ true → Way d (ended d f)
+  ends : (f : Phase) → inRange d ≡ true → final f ≡ true → (writing f ≡ writing (d .phase)) × (confirmed f ≡ confirmed (d .phase)) → countFits f (writeCount (d .command)) (most d) (d .count) ≡ true → Way d (ended d f)
 
 module _ (d : Driver) (read : ℕ) (e : inRange d ≡ true) where
   fits : (f : Phase) → d .phase ≡ f → countFits f (writeCount (d .command)) (most d) (d .count) ≡ true
@@ -79,8 +70,11 @@ module _ (d : Driver) (read : ℕ) (e : inRange d ≡ true) where
   at-writing : d .phase ≡ Writing → Way d (writingOf (rowOf (d .part)) d)
   unfolding writingOf afterWrite
   at-writing q =
-      split (λ (d′ : Driver). Way d (step 0 d′ (Send 0 (Write (nextWrite (rowOf (d .part)) d .address) (nextWrite (rowOf (d .part)) d .«data»))) 0)) (ltb (d .count + 1) (writeCount (d .command))) _ _
-      (λ l. writes _ _ q (ltb-true _ _ l)) (λ _. wrote _ _ q (ltb-true _ _ (fits Writing q)))
+      split (λ (d′ : Driver). Way d (step 0 d′ (Send 0 (writeNext d)) 0)) (ltb (d .count + 1) (writeCount (d .command))) _ _
+      (λ l. writes q (ltb-true _ _ l)) (λ l. wrote q (last (ltb-false _ _ l) (ltb-true _ _ (fits Writing q))))
+    where
+      last : writeCount (d .command) ≤ d .count + 1 → d .count < writeCount (d .command) → d .count + 1 ≡ writeCount (d .command)
+      last h l = omega arith
 
   at-polling : d .phase ≡ Polling → Way d (pollingOf (rowOf (d .part)) d read)
   unfolding pollingOf matches
@@ -88,7 +82,7 @@ module _ (d : Driver) (read : ℕ) (e : inRange d ≡ true) where
       split (Way d) (matches d read) _ _
       (λ m. matched q (ltb-true _ _ (both (ltb 0 (d .count)) _ m .0)) most-count)
       (λ _. split (Way d) (ltb (d .count) (most d)) _ _ (λ l. waits q (ltb-true _ _ l))
-      (λ l. ends GaveUp e refl (rw q refl) (eq-eqb _ _ (all (ltb-false _ _ l)))))
+      (λ l. ends GaveUp e refl (rw q (refl, refl)) (eq-eqb _ _ (all (ltb-false _ _ l)))))
     where
       most-count : d .count ≤ most d
       most-count = leb-true _ _ (fits Polling q)
@@ -100,15 +94,15 @@ module _ (d : Driver) (read : ℕ) (e : inRange d ≡ true) where
   unfolding confirmingOf
   at-confirming q =
       split (Way d) (eqb (valueOf (rowOf (d .part) .width) read) (valueWanted (rowOf (d .part)) (d .command) (d .«data»))) _ _
-      (λ _. ends Done e refl (rw q refl) (fits Confirming q)) (λ _. ends Differs e refl (rw q refl) (fits Confirming q))
+      (λ _. ends Done e refl (rw q (refl, refl)) (fits Confirming q)) (λ _. ends Differs e refl (rw q (refl, refl)) (fits Confirming q))
 
   by-phase : (f : Phase) → d .phase ≡ f → Way d (phaseOf (rowOf (d .part)) f d read)
   by-phase Writing q = at-writing q
   by-phase Polling q = at-polling q
   by-phase Confirming q = at-confirming q
-  by-phase Done q = ends Done e refl (rw q refl) (fits Done q)
-  by-phase GaveUp q = ends GaveUp e refl (rw q refl) (fits GaveUp q)
-  by-phase Differs q = ends Differs e refl (rw q refl) (fits Differs q)
+  by-phase Done q = ends Done e refl (rw q (refl, refl)) (fits Done q)
+  by-phase GaveUp q = ends GaveUp e refl (rw q (refl, refl)) (fits GaveUp q)
+  by-phase Differs q = ends Differs e refl (rw q (refl, refl)) (fits Differs q)
 
 pub way : (d : Driver) (read : ℕ) → Way d (stepOf d read)
 way d read = by (inRange d) refl
@@ -124,8 +118,8 @@ keeps d read e = go (stepOf d read) (way d read)
   where
     go : (s : Step) → Way d s → inRange (s .driver) ≡ true
     go s (refused f) = apart (sym f ∙ e)
-    go s (writes a x q l) = moved-in-range d Writing (d .count + 1) e (lt-ltb (d .count + 1) (writeCount (d .command)) l)
-    go s (wrote a x q l) = moved-in-range d Polling 0 e (le-leb 0 (most d) zero-le)
+    go s (writes q l) = moved-in-range d Writing (d .count + 1) e (lt-ltb (d .count + 1) (writeCount (d .command)) l)
+    go s (wrote q l) = moved-in-range d Polling 0 e (le-leb 0 (most d) zero-le)
     go s (waits q l) = moved-in-range d Polling (d .count + 1) e (le-leb (d .count + 1) (most d) (omega (arith, l)))
     go s (matched q l h) = moved-in-range d Confirming (d .count) e (rw (lt-ltb 0 (d .count) l) (le-leb (d .count) (most d) h))
     go s (ends f i z c h) = moved-in-range d f (d .count) e h
@@ -147,8 +141,8 @@ repeats d read again = go (stepOf d read) (way d read) (keeps d read)
 
     go : (s : Step) → Way d s → (inRange d ≡ true → inRange (s .driver) ≡ true) → s .next ≡ Nothing → stepOf (s .driver) again ≡ s
     go s (refused f) i h = refuses d again f
-    go s (writes a x q l) i h = not-sent _ _ _ h
-    go s (wrote a x q l) i h = not-sent _ _ _ h
+    go s (writes q l) i h = not-sent _ _ _ h
+    go s (wrote q l) i h = not-sent _ _ _ h
     go s (waits q l) i h = not-sent _ _ _ h
     go s (matched q l m) i h = not-sent _ _ _ h
     go s (ends f e z c m) i h = final-step f (d .count) z (i e)
@@ -176,58 +170,48 @@ falls d read = go (stepOf d read) (way d read)
   where
     go : (s : Step) → Way d s → leftFrom (s .next) (s .driver) ≤ left d
     go s (refused f) = zero-le
-    go s (writes a x q l) = rw q (omega (arith, l))
-    go s (wrote a x q l) = rw q (omega (arith, l))
+    go s (writes q l) = rw q (omega (arith, l))
+    go s (wrote q l) = rw q (omega (arith, l))
     go s (waits q l) = rw q (omega (arith, l))
     go s (matched q l m) = rw q (omega arith)
     go s (ends f i z c h) = zero-le
 
--- the cycle that a step names, in a list
-abbrev pub named : Bool → Next → List Cycle
-named wp Nothing = []
-named wp (Send e a) = cycle e wp a ∷ []
-
--- the polls in a step's result: those before it, and its own
+-- the polls that a driver has named
 abbrev pub pollsBy : Driver → ℕ
 pollsBy d = pollsAt (d .phase) (d .count)
 
-pub counts : (d : Driver) (read : ℕ) (wp : Bool) → inRange d ≡ true → stepOf d read .polls ≡ pollsBy d + pollsIn (named wp (stepOf d read .next))
-counts d read wp e = go (stepOf d read) (way d read)
-  where
-    some : 0 < d .p
-    some = valid-start d e .some
+-- at an end its count is of polls, and no write is left
+pub final-polls : (f : Phase) → final f ≡ true → (n : ℕ) → pollsAt f n ≡ n
+final-polls Writing z n = apart z
+final-polls Polling z n = refl
+final-polls Confirming z n = refl
+final-polls Done z n = refl
+final-polls GaveUp z n = refl
+final-polls Differs z n = refl
 
-    go : (s : Step) → Way d s → s .polls ≡ pollsBy d + pollsIn (named wp (s .next))
-    go s (refused f) = apart (sym f ∙ e)
-    go s (writes a x q l) = rw q
-    go s (wrote a x q l) = rw q
-    go s (waits q l) = rw (q, lt-ltb 0 (d .p) some)
-    go s (matched q l m) = rw q (omega arith)
-    go s (ends f i z c h) = omega (arith, c)
+pub final-writing : (f : Phase) → final f ≡ true → writing f ≡ false
+final-writing Writing z = apart z
+final-writing Polling z = refl
+final-writing Confirming z = refl
+final-writing Done z = refl
+final-writing GaveUp z = refl
+final-writing Differs z = refl
 
--- and the driver that it hands back has as many
+-- the driver that a step hands back has as many as the result says
 pub carries : (d : Driver) (read : ℕ) → inRange d ≡ true → pollsBy (stepOf d read .driver) ≡ stepOf d read .polls
 carries d read e = go (stepOf d read) (way d read)
   where
-    final-polls : (f : Phase) → final f ≡ true → pollsAt f (d .count) ≡ d .count
-    final-polls Writing z = apart z
-    final-polls Polling z = apart z
-    final-polls Confirming z = apart z
-    final-polls Done z = refl
-    final-polls GaveUp z = refl
-    final-polls Differs z = refl
-
     go : (s : Step) → Way d s → pollsBy (s .driver) ≡ s .polls
     go s (refused f) = apart (sym f ∙ e)
-    go s (writes a x q l) = refl
-    go s (wrote a x q l) = refl
+    go s (writes q l) = refl
+    go s (wrote q l) = refl
     go s (waits q l) = refl
     go s (matched q l m) = refl
-    go s (ends f i z c h) = final-polls f z
+    go s (ends f i z c h) = final-polls f z (d .count)
 
 -- no more than 2N polls
-pub few : (d : Driver) → inRange d ≡ true → pollsBy d ≤ most d
-few d e = by (d .phase) (valid-count d e)
+pub few-polls : (d : Driver) → inRange d ≡ true → pollsBy d ≤ most d
+few-polls d e = by (d .phase) (valid-count d e)
   where
     some-few : someUpTo (most d) (d .count) ≡ true → d .count ≤ most d
     some-few h = leb-true _ _ (both (ltb 0 (d .count)) _ h .1)
@@ -240,14 +224,14 @@ few d e = by (d .phase) (valid-count d e)
     by GaveUp h = omega (arith, eqb-true (d .count) (most d) h)
     by Differs h = some-few h
 
--- 2N stays
-pub limits : (d : Driver) (read : ℕ) → most (stepOf d read .driver) ≡ most d
-limits d read = go (stepOf d read) (way d read)
+-- what is asked stays
+pub asks-on : (d : Driver) (read : ℕ) → stepOf d read .driver ≡ moved d (stepOf d read .driver .phase) (stepOf d read .driver .count)
+asks-on d read = go (stepOf d read) (way d read)
   where
-    go : (s : Step) → Way d s → most (s .driver) ≡ most d
+    go : (s : Step) → Way d s → s .driver ≡ moved d (s .driver .phase) (s .driver .count)
     go s (refused f) = refl
-    go s (writes a x q l) = refl
-    go s (wrote a x q l) = refl
+    go s (writes q l) = refl
+    go s (wrote q l) = refl
     go s (waits q l) = refl
     go s (matched q l m) = refl
     go s (ends f i z c h) = refl
@@ -258,8 +242,8 @@ answers d read e = go (stepOf d read) (way d read)
   where
     go : (s : Step) → Way d s → s .answer ≡ ending (s .driver .phase)
     go s (refused f) = apart (sym f ∙ e)
-    go s (writes a x q l) = refl
-    go s (wrote a x q l) = refl
+    go s (writes q l) = refl
+    go s (wrote q l) = refl
     go s (waits q l) = refl
     go s (matched q l m) = refl
     go s (ends f i z c h) = refl
@@ -270,19 +254,19 @@ finishes d read e = go (stepOf d read) (way d read)
   where
     go : (s : Step) → Way d s → s .next ≡ Nothing → final (s .driver .phase) ≡ true
     go s (refused f) h = apart (sym f ∙ e)
-    go s (writes a x q l) h = let z : _≡_ {A = ℕ} 0 1 = cc in absurd (omega arith)
-    go s (wrote a x q l) h = let z : _≡_ {A = ℕ} 0 1 = cc in absurd (omega arith)
+    go s (writes q l) h = let z : _≡_ {A = ℕ} 0 1 = cc in absurd (omega arith)
+    go s (wrote q l) h = let z : _≡_ {A = ℕ} 0 1 = cc in absurd (omega arith)
     go s (waits q l) h = let z : _≡_ {A = ℕ} 0 1 = cc in absurd (omega arith)
     go s (matched q l m) h = let z : _≡_ {A = ℕ} 0 1 = cc in absurd (omega arith)
     go s (ends f i z c m) h = z
 
 -- ---- what is known of a step of a state in range
-pub record Kept (s : Step) : Type 0 where
+pub record StepInRange (s : Step) : Type 0 where
   pub range : inRange (s .driver) ≡ true
   pub carried : pollsBy (s .driver) ≡ s .polls
   pub number : s .answer ≡ ending (s .driver .phase)
   pub finished : s .next ≡ Nothing → final (s .driver .phase) ≡ true
   pub again : s .next ≡ Nothing → (read : ℕ) → stepOf (s .driver) read ≡ s
 
-pub kept : (d : Driver) (read : ℕ) → inRange d ≡ true → Kept (stepOf d read)
+pub kept : (d : Driver) (read : ℕ) → inRange d ≡ true → StepInRange (stepOf d read)
 kept d read e = record { range = keeps d read e; carried = carries d read e; number = answers d read e; finished = finishes d read e; again = λ h r. repeats d read r h }

@@ -1,6 +1,6 @@
 -- A driver's talk with the model: the writes, the polls while the operation runs and once it has completed, and the end.
 use Prim.Native.Nat.{ℕ, zero, suc, zero-le, _+_, _-_, _*_, _/_, _%_, _≤_, _<_}
-use mathlib.Core.Path.{_≡_, refl, ap, _∙_}
+use mathlib.Core.Path.{_≡_, refl, sym, ap, _∙_}
 use mathlib.Core.Bool.{Bool, true, false, not}
 use mathlib.Core.List.{List, [], _∷_, _++_, append-nil}
 use native.Mathlib.Nat.{suc-mul, one-mul, zero-mul, not-suc-le-zero, le-of-suc-le-suc}
@@ -24,11 +24,11 @@ use Rattle.chip.specs.declared.device.Device.{Device}
 use Rattle.chip.specs.declared.cycle.Action.{Action}
 use Rattle.chip.specs.declared.cycle.Action.the-variants.{Read}
 use Rattle.chip.specs.declared.cycle.Cycle.{Cycle}
-use Rattle.chip.specs.Device.{operation, busyWith, atRest, device, coreIdle}
+use Rattle.chip.specs.Device.{operation, busyWith, atRest, busy, device, coreIdle}
 use Rattle.chip.specs.Operation.{cellsOf, completeOn}
 use Rattle.chip.specs.Sequence.{ignored}
-use Rattle.chip.specs.Cycle.{Chip, chip, Outcome, outcome, cycleOf, status, bit6}
-use Rattle.chip.specs.Trace.{leaves, after, play}
+use Rattle.chip.specs.Cycle.{cycle, Chip, chip, Outcome, outcome, cycleOf, status, bit6}
+use Rattle.chip.specs.Trace.{leaves, after, play, startedBy, startedIn}
 use Rattle.chip.proofs.Accepted.{Valid, inside-cells}
 use Rattle.chip.proofs.Settled.{complete-length}
 use Rattle.chip.proofs.Idle.{idle-rests, idle-again}
@@ -37,13 +37,16 @@ use Rattle.commands.specs.declared.write.Write.{Write}
 use Rattle.driver.specs.declared.machine.Phase.{Phase}
 use Rattle.driver.specs.declared.machine.Phase.the-variants.{Writing, Polling, Confirming, Done, GaveUp, Differs}
 use Rattle.driver.specs.declared.machine.Driver.{Driver}
+use Rattle.driver.specs.declared.machine.Next.{Next}
 use Rattle.driver.specs.declared.machine.Next.the-variants.{Nothing, Send}
 use Rattle.driver.specs.declared.machine.Step.{Step}
 use Rattle.driver.specs.Refusals.{startRefusal}
 use Rattle.driver.specs.Writes.{write, noWrite, lastWrite, writesOf, writeCount, nthWrite}
-use Rattle.driver.specs.Machine.{mostPolls, countFits, inRange, moved, step, ended, addressOf, bitSeven, bitWanted, valueWanted, afterWrite, writingOf, polls, matches, pollingOf, confirmingOf, phaseOf, stepOf}
-use Rattle.driver.specs.Talk.{cycle, writeCycle, writeCycles, operationOf, Told, told, led, talk}
+use Rattle.driver.specs.Machine.{mostPolls, countFits, inRange, moved, step, ended, addressOf, bitSeven, bitWanted, valueWanted, afterWrite, writingOf, polls, confirmAfter, matches, pollingOf, confirmingOf, phaseOf, stepOf}
+use Rattle.driver.specs.Talk.{writeCycle, writeCycles, operationOf, Told, told, led, shows, talk}
+use Rattle.driver.specs.Reads.{Due, Scans, Polls, Confirms, begins, passes, Place, ARead, NoRead, placesIn}
 use Rattle.driver.proofs.Asked.{Begun, begun}
+use Rattle.driver.proofs.Ready.{write-count-some}
 use Rattle.driver.proofs.Steps.{goes, most}
 use Rattle.driver.proofs.Commands.{command-le, last-there, last-fits, command-leads}
 
@@ -60,10 +63,6 @@ write-length r command a x = by (eqb command 0) _ _ refl refl
     by true ws vs e f = e
     by false ws vs e f = f
 
-some-writes : (command : ℕ) → 0 < writeCount command
-unfolding writeCount
-some-writes command = split (λ (n : ℕ). 0 < n) (eqb command 0) 4 6 (λ _. omega arith) (λ _. omega arith)
-
 drop-writes : (wp : Bool) (ws : List Write) (k : ℕ) → k < length ws → drop k (writeCycles wp ws) ≡ writeCycle wp (getD ws k noWrite) ∷ drop (suc k) (writeCycles wp ws)
 drop-writes wp [] k h = absurd (not-suc-le-zero h)
 drop-writes wp (w ∷ ws) zero h = refl
@@ -76,6 +75,23 @@ drop-done wp (w ∷ ws) zero h = absurd (not-suc-le-zero h)
 drop-done wp (w ∷ ws) (suc k) h = drop-done wp ws k (le-of-suc-le-suc h)
 
 -- ---- a talk, turn by turn
+pub silent : {A : Type 0} (e : ℕ) (a : Action) → Nothing ≡ Send e a → A
+silent {A} e a q = let z : _≡_ {A = ℕ} 0 1 = cc in absurd (omega arith)
+
+module _ (part : ℕ) (wp : Bool) (m : ℕ) (t : Step) (h : Chip) where
+  pub talk-stops : t .next ≡ Nothing → talk part wp (suc m) t h ≡ told [] h t
+  unfolding talk
+  talk-stops q = by (t .next) q
+    where
+      by : (x : Next) → x ≡ Nothing
+          → _≡_ {A = Told} (elim x [ Nothing ↦ told [] h t | Send e a ↦ led (cycle e wp a) (talk part wp m (stepOf (t .driver) (shows part h (cycle e wp a))) (after part h (cycle e wp a))) ]) (told [] h t)
+      by Nothing q = refl
+      by (Send e a) q = silent e a (sym q)
+
+  pub talk-goes : (e : ℕ) (a : Action) → t .next ≡ Send e a → talk part wp (suc m) t h ≡ led (cycle e wp a) (talk part wp m (stepOf (t .driver) (shows part h (cycle e wp a))) (after part h (cycle e wp a)))
+  unfolding talk
+  talk-goes e a q = rw (q, talk)
+
 module _ (part : ℕ) (wp : Bool) where
   pub sends : (n k e q : ℕ) (d : Driver) (a : Action) (h : Chip) (o : Outcome) → cycleOf part (h .cells) (h .device) (cycle e wp a) ≡ o
       → talk part wp (suc n) (step k d (Send e a) q) h ≡ led (cycle e wp a) (talk part wp n (stepOf d (o .reply .value)) (leaves o))
@@ -86,6 +102,29 @@ module _ (part : ℕ) (wp : Bool) where
   unfolding talk
   rests-told zero k q d h = refl
   rests-told (suc n) k q d h = refl
+
+-- ---- cycles by their places
+-- a read that leaves the chip h′
+read-placed : (part : ℕ) (u : Due) (h : Chip) (e : ℕ) (wp : Bool) (a : ℕ) (cs : List Cycle) (o : Outcome) → cycleOf part (h .cells) (h .device) (cycle e wp (Read a)) ≡ o
+    → placesIn part u h (cycle e wp (Read a) ∷ cs) ≡ ARead u ∷ placesIn part (passes u (busy (o .reply .device .core))) (leaves o) cs
+unfolding after
+read-placed part u h e wp a cs o q = rw q
+
+-- writes are no reads; one that starts an operation makes polls due
+begins-append : (u : Due) (os ps : List Operation) → begins (begins u os) ps ≡ begins u (os ++ ps)
+begins-append u [] ps = refl
+begins-append u (o ∷ os) [] = refl
+begins-append u (o ∷ os) (q ∷ ps) = refl
+
+writes-placed : (part : ℕ) (u : Due) (h : Chip) (wp : Bool) (ws : List Write) (cs : List Cycle)
+    → placesIn part u h (writeCycles wp ws ++ cs) ≡ replicate (length ws) NoRead ++ placesIn part (begins u (startedIn part h (writeCycles wp ws))) (play part h (writeCycles wp ws)) cs
+writes-placed part u h wp [] cs = refl
+writes-placed part u h wp (w ∷ ws) cs =
+    let c = writeCycle wp w in
+    let v = begins u (startedBy part h c) in
+    ap (λ (ps : List Place). NoRead ∷ ps)
+    (writes-placed part v (after part h c) wp ws cs
+    ∙ ap (λ (u : Due). replicate (length ws) NoRead ++ placesIn part u (play part (after part h c) (writeCycles wp ws)) cs) (begins-append u (startedBy part h c) (startedIn part (after part h c) (writeCycles wp ws))))
 
 -- ---- a driver whose start is accepted
 module _ (b : Driver) (accepted : startRefusal (b .part) (b .command) (b .address) (b .«data») (b .p) ≡ 0) (wp : Bool) where
@@ -275,15 +314,48 @@ module _ (b : Driver) (accepted : startRefusal (b .part) (b .command) (b .addres
     reads : (e : ℕ) → cycleOf (b .part) done (device finished 0) (cycle e wp (Read at)) ≡ outcome done shown (device finished 0)
     reads e = read-idle (b .part) done known done-whole at at-there finished e wp (idle-again core idles (operationOf r (b .command) (b .address) (b .«data»)))
 
+    -- ---- the same by their places, whatever follows
+    polling-placed : (k l : ℕ) (t : Bool) (cs : List Cycle) → k * b .p < l → l ≤ suc k * b .p → l ≤ timeOf r (b .command)
+        → placesIn (b .part) Polls (chip cells (busyAt l t)) (replicate (suc k) poll ++ cs) ≡ replicate (suc k) (ARead Polls) ++ placesIn (b .part) Confirms rested cs
+    polling-placed zero l t cs early enough most-time =
+        read-placed (b .part) Polls (chip cells (busyAt l t)) (b .p) wp at cs _
+        (read-done (b .part) cells known whole at at-there (busyWith core (running l t)) (b .p) wp (running-valid l t most-time) (omega (arith, zero-mul (b .p))) (omega (arith, one-mul (b .p))))
+        ∙ ap (λ (xs : List ℕ). ARead Polls ∷ placesIn (b .part) Confirms (chip xs (device finished 0)) cs) (same-done l t)
+    polling-placed (suc k) l t cs early enough most-time =
+        let e : suc k * b .p ≡ k * b .p + b .p = suc-mul k (b .p) in
+        let e′ : suc (suc k) * b .p ≡ suc k * b .p + b .p = suc-mul (suc k) (b .p) in
+        read-placed (b .part) Polls (chip cells (busyAt l t)) (b .p) wp at (replicate (suc k) poll ++ cs) _
+        (read-busy (b .part) cells known whole at at-there (busyWith core (running l t)) (b .p) wp (running-valid l t most-time) (omega arith))
+        ∙ rw (lt-ltb 0 (l - b .p) (omega arith)) (ap (λ (ps : List Place). ARead Polls ∷ ps) (polling-placed k (l - b .p) (not t) cs (omega arith) (omega arith) (omega arith)))
+
+    polls-placed : (cs : List Cycle) → placesIn (b .part) Polls (chip cells (device (busyWith core (operationOf r (b .command) (b .address) (b .«data»))) 0)) (replicate turns poll ++ cs)
+        ≡ replicate turns (ARead Polls) ++ placesIn (b .part) Confirms rested cs
+    polls-placed cs = by turns refl
+      where
+        T : ℕ
+        T = timeOf r (b .command)
+
+        by : (k : ℕ) → turns ≡ k → placesIn (b .part) Polls (chip cells (device (busyWith core (operationOf r (b .command) (b .address) (b .«data»))) 0)) (replicate turns poll ++ cs)
+            ≡ replicate turns (ARead Polls) ++ placesIn (b .part) Confirms rested cs
+        by zero e = absurd (omega (arith, positive T (b .p) (valid .some) some-time))
+        by (suc k) e =
+            let i : turns - 1 ≡ k = omega arith in
+            let short : k * b .p < T = rw i at (below T (b .p) (valid .some) some-time) in
+            let long : T ≤ suc k * b .p = rw e at (reaches T (b .p) (valid .some)) in
+            rw e (polling-placed k T true cs short long (omega arith))
+
+    confirm-placed : (cs : List Cycle) → placesIn (b .part) Confirms rested (cycle confirmAfter wp (Read at) ∷ cs) ≡ ARead Confirms ∷ placesIn (b .part) Scans rested cs
+    confirm-placed cs = read-placed (b .part) Confirms rested confirmAfter wp at cs _ (reads confirmAfter)
+
     -- ---- the end: bit 7 matches
     confirming : (q n : ℕ) → 0 < q → q ≤ most b → eqb (bitSeven shown) (bitWanted (b .command) (b .«data»)) ≡ true
         → talk (b .part) wp (suc n) (stepOf (moved b Polling q) shown) rested
-        ≡ told (cycle 0 wp (Read at) ∷ []) rested (ended (moved b Polling q) (pick (eqb shown (valueWanted r (b .command) (b .«data»))) Done Differs))
+        ≡ told (cycle confirmAfter wp (Read at) ∷ []) rested (ended (moved b Polling q) (pick (eqb shown (valueWanted r (b .command) (b .«data»))) Done Differs))
     unfolding pollingOf matches confirmingOf
     confirming q n some few hit =
         ap (λ (s : Step). talk (b .part) wp (suc n) s rested) (takes Polling q shown (le-leb q (most b) few) ∙ rw (lt-ltb 0 q some, hit))
-        ∙ (sends (b .part) wp n 0 0 q (moved b Confirming q) (Read at) rested _ (reads 0)
-        ∙ ap (led (cycle 0 wp (Read at)))
+        ∙ (sends (b .part) wp n 0 confirmAfter q (moved b Confirming q) (Read at) rested _ (reads confirmAfter)
+        ∙ ap (led (cycle confirmAfter wp (Read at)))
         (ap (λ (s : Step). talk (b .part) wp n s rested)
         (takes Confirming q shown (rw (lt-ltb 0 q some) (le-leb q (most b) few)) ∙ rw (value-value (r .width) (getD done at 0)) (one-end (eqb shown (valueWanted r (b .command) (b .«data»)))))
         ∙ rests-told (b .part) wp n _ q _ rested))
@@ -313,6 +385,16 @@ module _ (b : Driver) (accepted : startRefusal (b .part) (b .command) (b .addres
       played : play (b .part) (chip cells (device core 0)) writeList ≡ chip cells (device (busyWith core (operationOf r (b .command) (b .address) (b .«data»))) 0)
       played = command-leads (b .part) known cells whole wp core (idle-rests core idles) (b .command) (b .address) (b .«data») (valid .asked .target) heeded .played
 
+      starting : startedIn (b .part) (chip cells (device core 0)) writeList ≡ operationOf r (b .command) (b .address) (b .«data») ∷ []
+      starting = command-leads (b .part) known cells whole wp core (idle-rests core idles) (b .command) (b .address) (b .«data») (valid .asked .target) heeded .begun
+
+      -- all of its cycles by their places: no reads, N polls, the confirming read
+      pub placed : (cs : List Cycle) → placesIn (b .part) Scans (chip cells (device core 0)) (writeList ++ (replicate turns poll ++ (cycle confirmAfter wp (Read at) ∷ cs)))
+          ≡ replicate (writeCount (b .command)) NoRead ++ (replicate turns (ARead Polls) ++ (ARead Confirms ∷ placesIn (b .part) Scans rested cs))
+      placed cs =
+          writes-placed (b .part) Scans (chip cells (device core 0)) wp (writesOf r (b .command) (b .address) (b .«data»)) (replicate turns poll ++ (cycle confirmAfter wp (Read at) ∷ cs))
+          ∙ rw (starting, played, write-length r (b .command) (b .address) (b .«data»), polls-placed (cycle confirmAfter wp (Read at) ∷ cs), confirm-placed cs)
+
       -- the writes, and N polls
       opening : (n m read : ℕ) → n ≡ writeCount (b .command) + (turns + m)
           → talk (b .part) wp n (stepOf (moved b Writing 0) read) (chip cells (device core 0))
@@ -320,12 +402,12 @@ module _ (b : Driver) (accepted : startRefusal (b .part) (b .command) (b .addres
       unfolding driverAt
       opening n m read fuel =
           let z : 0 + writeCount (b .command) ≡ writeCount (b .command) = omega arith in
-          (rw (lt-ltb 0 (writeCount (b .command)) (some-writes (b .command))) at (writes-talk (writeCount (b .command)) 0 n (turns + m) read (chip cells (device core 0)) z fuel))
+          (rw (lt-ltb 0 (writeCount (b .command)) (omega (arith, write-count-some (b .command)))) at (writes-talk (writeCount (b .command)) 0 n (turns + m) read (chip cells (device core 0)) z fuel))
           ∙ ap (sent writeList) (rw played (all-polls (turns + m) m refl))
 
       pub performs : (n read : ℕ) → writeCount (b .command) + turns + 1 ≤ n → eqb (bitSeven shown) (bitWanted (b .command) (b .«data»)) ≡ true
           → talk (b .part) wp n (stepOf (moved b Writing 0) read) (chip cells (device core 0))
-          ≡ told (writeList ++ (replicate turns poll ++ (cycle 0 wp (Read at) ∷ []))) rested
+          ≡ told (writeList ++ (replicate turns poll ++ (cycle confirmAfter wp (Read at) ∷ []))) rested
           (ended (moved b Polling turns) (pick (eqb shown (valueWanted r (b .command) (b .«data»))) Done Differs))
       unfolding mostPolls
       performs n read enough hit =

@@ -18,20 +18,22 @@ use Rattle.chip.specs.declared.cycle.Action.the-variants.{Read}
 use Rattle.chip.specs.declared.cycle.Cycle.{Cycle}
 use Rattle.chip.specs.Device.{busyWith, device, freshDevice, coreIdle, idle}
 use Rattle.chip.specs.Sequence.{ignored}
-use Rattle.chip.specs.Cycle.{Chip, chip}
+use Rattle.chip.specs.Cycle.{cycle, Chip, chip}
 use Rattle.chip.specs.Trace.{play, startedIn}
 use Rattle.driver.specs.declared.machine.Phase.{Phase}
 use Rattle.driver.specs.declared.machine.Phase.the-variants.{Polling, Done, GaveUp, Differs}
-use Rattle.driver.specs.declared.machine.Next.{Next}
 use Rattle.driver.specs.declared.machine.Next.the-variants.{Nothing}
+use Rattle.driver.specs.declared.machine.Driver.{Driver}
 use Rattle.driver.specs.declared.machine.Step.{Step}
 use Rattle.driver.specs.Refusals.{commandRefusal, startRefusal}
 use Rattle.driver.specs.Writes.{writesOf, writeCount}
-use Rattle.driver.specs.Machine.{addressOf, bitSeven, bitWanted, valueWanted, begun, startOf, mostPolls, moved, ending, final, ended, stepOf}
-use Rattle.driver.specs.Talk.{cycle, writeCycles, operationOf, completed, shownAfter, Told, told, talk, Heard, heard, pollsIn}
+use Rattle.driver.specs.Machine.{addressOf, bitSeven, bitWanted, valueWanted, begun, startOf, mostPolls, confirmAfter, moved, ending, final, ended, stepOf}
+use Rattle.driver.specs.Talk.{writeCycles, operationCycles, operationOf, completed, shownAfter, Told, told, talk, Heard, heard}
+use Rattle.driver.specs.Reads.{Scans, Polls, Confirms, ARead, NoRead, placesIn}
 use Rattle.driver.proofs.Asked as Asked
-use Rattle.driver.proofs.Steps.{kept, few, counts, limits, falls, named}
-use Rattle.driver.proofs.Within.{within, over, counted}
+use Rattle.driver.proofs.Steps.{most, StepInRange, kept, few-polls, falls, asks-on, final-polls, final-writing}
+use Rattle.driver.proofs.Named.{namedIn, namedBy, names, asCycle, cycles-are, cycles-few}
+use Rattle.driver.proofs.Within.{over, stands}
 use Rattle.chip.proofs.Idle.{idle-is, idle-rests}
 use Rattle.driver.proofs.Commands.{command-leads}
 use Rattle.driver.proofs.Begins.{started, few-commands, kept-accepted, start-range, kept-address, kept-bit, kept-value, kept-last, kept-writes, kept-heeded}
@@ -97,7 +99,7 @@ module _ (part command address word p : ℕ) (wp : Bool) (cells : List ℕ) (d :
   -- Where bit 7 of the shown value is the wanted one, it sends the writes, N polls and one confirming read, and ends 0 where the shown value is the wanted
   -- one, and else 12; with N polls in the result.
   pub performs : bitSeven shown ≡ bitWanted command word → (n read : ℕ) → writeCount command + N + 1 ≤ n
-      → talked n read ≡ told (sending N (cycle 0 wp (Read at) ∷ [])) leaving (ending-with N (pick (eqb shown (valueWanted r command word)) Done Differs))
+      → talked n read ≡ told (sending N (cycle confirmAfter wp (Read at) ∷ [])) leaving (ending-with N (pick (eqb shown (valueWanted r command word)) Done Differs))
   performs hit n read enough =
       let c = few-commands part command address word p accepted in
       let l = kept-last r command address word c in
@@ -119,9 +121,18 @@ module _ (part command address word p : ℕ) (wp : Bool) (cells : List ℕ) (d :
       (Talks.gives-up (begun part command address word p) (kept-accepted part command address word p accepted) wp cells whole (d .core) (idles .1) (kept-heeded r command address word c wp ∙ heeded)
       n read enough (rw (l, a, kept-bit command word) (ne-eqb (bitSeven shown) (bitWanted command word) miss))))
 
+  -- The writes, N polls and the confirming read told by their places, whatever follows.
+  pub placed : (cs : List Cycle) → placesIn part Scans (chip cells d) (sending N (cycle confirmAfter wp (Read at) ∷ cs))
+      ≡ replicate (writeCount command) NoRead ++ (replicate N (ARead Polls) ++ (ARead Confirms ∷ placesIn part Scans leaving cs))
+  placed cs =
+      let c = few-commands part command address word p accepted in
+      rw (idles .0)
+      (rw (kept-writes r command address word c, kept-last r command address word c, kept-address command address) at
+      (Talks.placed (begun part command address word p) (kept-accepted part command address word p accepted) wp cells whole (d .core) (idles .1) (kept-heeded r command address word c wp ∙ heeded) cs))
+
   -- So where the shown value is the wanted one, it ends 0 after N polls and the confirming read.
   pub succeeds : shown ≡ valueWanted r command word → (n read : ℕ) → writeCount command + N + 1 ≤ n
-      → talked n read ≡ told (sending N (cycle 0 wp (Read at) ∷ [])) leaving (ending-with N Done)
+      → talked n read ≡ told (sending N (cycle confirmAfter wp (Read at) ∷ [])) leaving (ending-with N Done)
   succeeds same n read enough =
       let k = Asked.begun part command address word p accepted .asked .known in
       rw (eq-eqb shown (valueWanted r command word) same) at (performs (ap bitSeven same ∙ Shown.wanted-bit part command word k) n read enough)
@@ -130,7 +141,7 @@ module _ (part command address word p : ℕ) (wp : Bool) (cells : List ℕ) (d :
   pub erase-shows : (command ≡ 0 → ⊥) → shown ≡ valueWanted r command word
   erase-shows e = let w = Asked.begun part command address word p accepted .asked in Shown.erase-shows part command address word (w .known) (w .target) cells whole e
 
-  pub erases : (command ≡ 0 → ⊥) → (n read : ℕ) → writeCount command + N + 1 ≤ n → talked n read ≡ told (sending N (cycle 0 wp (Read at) ∷ [])) leaving (ending-with N Done)
+  pub erases : (command ≡ 0 → ⊥) → (n read : ℕ) → writeCount command + N + 1 ≤ n → talked n read ≡ told (sending N (cycle confirmAfter wp (Read at) ∷ [])) leaving (ending-with N Done)
   erases e = succeeds (erase-shows e)
 
   -- and after a program where no bit has to rise: there the shown value is the old one AND the data.
@@ -138,38 +149,59 @@ module _ (part command address word p : ℕ) (wp : Bool) (cells : List ℕ) (d :
   program-shows z = let w = Asked.begun part command address word p accepted .asked in Shown.program-shows part command address word (w .known) (w .target) cells whole z
 
   pub programs : command ≡ 0 → bitAnd (valueOf (r .width) (getD cells address 0)) word ≡ word → (n read : ℕ) → writeCount command + N + 1 ≤ n
-      → talked n read ≡ told (sending N (cycle 0 wp (Read at) ∷ [])) leaving (ending-with N Done)
+      → talked n read ≡ told (sending N (cycle confirmAfter wp (Read at) ∷ [])) leaving (ending-with N Done)
   programs z clears = succeeds (program-shows z ∙ (clears ∙ sym (simp (eq-eqb command 0 z))))
 
 -- ---- D3: whatever is replied
--- how a talk stands that has ended: it names nothing more; its cycles are at most its writes, 2N polls and one confirming read; its poll count is that of
--- the polls sent, and at most 2N; its phase is one that ends, and its answer that ending's number, 0, 11 or 12; and it repeats its ending, whatever is read
-pub record Ended (part command p : ℕ) (t : Heard) : Type 0 where
+-- how a talk stands that has ended: it names nothing more; what it sent is its writes, as many polls as its result says and, unless it gave up, one confirming
+-- read, so at most its writes, 2N polls and one read more; its phase is one that ends, and its answer that ending's number, 0, 11 or 12; and it repeats its
+-- ending, whatever is read
+pub record Ended (part command address word p : ℕ) (wp : Bool) (t : Heard) : Type 0 where
   pub names-nothing : t .last .next ≡ Nothing
-  pub cycles-few : length (t .cycles) ≤ writeCount command + pollsOf (rowOf part) command p * 2 + 1
-  pub polls-counted : t .last .polls ≡ pollsIn (t .cycles)
+  pub sent : t .cycles ≡ operationCycles (rowOf part) wp command address word p (t .last .polls) (t .last .driver .phase)
   pub polls-few : t .last .polls ≤ pollsOf (rowOf part) command p * 2
+  pub cycles-few : length (t .cycles) ≤ writeCount command + pollsOf (rowOf part) command p * 2 + 1
   pub finished : final (t .last .driver .phase) ≡ true
   pub numbered : t .last .answer ≡ ending (t .last .driver .phase)
   pub repeated : (read : ℕ) → stepOf (t .last .driver) read ≡ t .last
 
 -- Whatever f replies, a dead chip's constant among them, and whatever was read before, a started driver has ended after its writes + 2N + 1 cycles.
-pub always-ends : (part command address word p : ℕ) → startRefusal part command address word p ≡ 0
-    → (wp : Bool) (f : ℕ → ℕ) (read n : ℕ) → writeCount command + pollsOf (rowOf part) command p * 2 + 1 ≤ n
-    → Ended part command p (heard wp f n (stepOf (startOf part command address word p .driver) read))
-unfolding mostPolls
-always-ends part command address word p accepted wp f read n enough =
-    rw (started part command address word p accepted)
-    (let d = begun part command address word p in
-    let i = start-range part command address word p accepted in
-    let e = over wp n f (stepOf d read) (omega (arith, falls d read)) in
-    let w = counted wp n f (stepOf d read) (kept d read i) in
-    record {
-      names-nothing = e;
-      cycles-few = omega (arith, within wp n f (stepOf d read), falls d read);
-      polls-counted = omega (arith, w .sum, counts d read wp i, ap (λ (x : Next). pollsIn (named wp x)) e);
-      polls-few = omega (arith, few _ (w .stands .range), w .stands .carried, w .limit, limits d read);
-      finished = w .stands .finished e;
-      numbered = w .stands .number;
-      repeated = w .stands .again e;
-    })
+module _ (part command address word p : ℕ) (accepted : startRefusal part command address word p ≡ 0) (wp : Bool) where
+  -- what a started driver has named by an end
+  named-at-end : (s : Step) → s .driver ≡ moved (begun part command address word p) (s .driver .phase) (s .driver .count) → StepInRange s → final (s .driver .phase) ≡ true
+      → namedBy Cycle (asCycle wp) (s .driver) ≡ operationCycles (rowOf part) wp command address word p (s .polls) (s .driver .phase)
+  named-at-end s e k z =
+      let b = begun part command address word p in
+      let f = s .driver .phase in
+      let c = few-commands part command address word p accepted in
+      ap (λ (d : Driver). namedIn Cycle (asCycle wp) d f (s .driver .count)) e
+      ∙ (cycles-are wp b f (s .driver .count) (final-writing f z)
+      ∙ rw (kept-writes (rowOf part) command address word c, kept-address command address, sym (final-polls f z (s .driver .count)) ∙ k .carried))
+
+  pub always-ends : (f : ℕ → ℕ) (read n : ℕ) → writeCount command + pollsOf (rowOf part) command p * 2 + 1 ≤ n
+      → Ended part command address word p wp (heard wp f n (stepOf (startOf part command address word p .driver) read))
+  unfolding mostPolls
+  always-ends f read n enough =
+      rw (started part command address word p accepted)
+      (let b = begun part command address word p in
+      let i = start-range part command address word p accepted in
+      let s = stepOf b read in
+      let t = heard wp f n s in
+      let e = over wp n f s (omega (arith, falls b read)) in
+      let w = stands wp n f [] s (kept b read i) in
+      let k = w .kept in
+      let z = k .finished e in
+      let same : t .last .driver ≡ moved b (t .last .driver .phase) (t .last .driver .count) =
+      w .asked ∙ ap (λ (d : Driver). moved d (t .last .driver .phase) (t .last .driver .count)) (asks-on b read) in
+      let few : t .last .polls ≤ pollsOf (rowOf part) command p * 2 = omega (arith, few-polls _ (k .range), k .carried, ap most same) in
+      let shape : t .cycles ≡ operationCycles (rowOf part) wp command address word p (t .last .polls) (t .last .driver .phase) =
+      sym (append-nil (t .cycles)) ∙ (sym (rw e at (w .adds (names Cycle (asCycle wp) b read i))) ∙ named-at-end (t .last) same k z) in
+      record {
+        names-nothing = e;
+        sent = shape;
+        polls-few = few;
+        cycles-few = omega (arith, ap length shape, cycles-few wp (rowOf part) command address word p (t .last .polls) (t .last .driver .phase));
+        finished = z;
+        numbered = k .number;
+        repeated = k .again e;
+      })

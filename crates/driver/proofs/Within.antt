@@ -1,17 +1,19 @@
--- Whatever is replied: how a driver's talk is bounded, that it ends, and that its poll count is that of its polls.
-use Prim.Native.Nat.{ℕ, zero, suc, zero-le, suc-le-suc, _+_, _≤_}
-use mathlib.Core.Path.{_≡_, refl, _∙_}
+-- Whatever is replied: that a driver's talk ends, and what it has named then.
+use Prim.Native.Nat.{ℕ, zero, suc, _≤_}
+use mathlib.Core.Path.{_≡_, refl, ap, _∙_}
 use mathlib.Core.Bool.{Bool}
-use mathlib.Core.List.{[], _∷_}
+use mathlib.Core.List.{List, [], _∷_, _++_}
 use native.Mathlib.Nat.{le-trans, le-of-suc-le-suc, not-suc-le-zero}
-use native.Mathlib.Omega.{arith}
-use lib.ListN.{length}
+use Rattle.chip.specs.declared.cycle.Cycle.{Cycle}
+use Rattle.chip.specs.Cycle.{cycle}
+use Rattle.driver.specs.declared.machine.Driver.{Driver}
 use Rattle.driver.specs.declared.machine.Next.{Next}
 use Rattle.driver.specs.declared.machine.Next.the-variants.{Nothing, Send}
 use Rattle.driver.specs.declared.machine.Step.{Step}
-use Rattle.driver.specs.Machine.{stepOf}
-use Rattle.driver.specs.Talk.{cycle, Heard, heardOf, heard, pollsIn}
-use Rattle.driver.proofs.Steps.{leftFrom, left, falls, counts, most, limits, named, Kept, kept}
+use Rattle.driver.specs.Machine.{moved, stepOf}
+use Rattle.driver.specs.Talk.{Heard, heardOf, heard}
+use Rattle.driver.proofs.Steps.{leftFrom, falls, asks-on, StepInRange, kept}
+use Rattle.driver.proofs.Named.{Adds, stays, moves, asCycle}
 
 module _ (wp : Bool) where
   -- the talk after a cycle
@@ -21,17 +23,7 @@ module _ (wp : Bool) where
   abbrev turn : (ℕ → ℕ) → ℕ → Step → Next → Heard
   turn f n s x = elim x [ Nothing ↦ heardOf [] s | Send e a ↦ heardOf (cycle e wp a ∷ rest f n s .cycles) (rest f n s .last) ]
 
-  -- no more cycles than are left
-  pub within : (n : ℕ) (f : ℕ → ℕ) (s : Step) → length (heard wp f n s .cycles) ≤ leftFrom (s .next) (s .driver)
-  unfolding heard
-  within zero f s = zero-le
-  within (suc n) f s = go (s .next) (le-trans (within n (λ i. f (suc i)) (stepOf (s .driver) (f 0))) (falls (s .driver) (f 0)))
-    where
-      go : (x : Next) → length (rest f n s .cycles) ≤ left (s .driver) → length (turn f n s x .cycles) ≤ leftFrom x (s .driver)
-      go Nothing h = zero-le
-      go (Send e a) h = suc-le-suc h
-
-  -- once as many have been sent, it has ended
+  -- once as many have been sent as are left, it has ended
   pub over : (n : ℕ) (f : ℕ → ℕ) (s : Step) → leftFrom (s .next) (s .driver) ≤ n → heard wp f n s .last .next ≡ Nothing
   unfolding heard
   over zero f s = go (s .next) refl
@@ -46,17 +38,23 @@ module _ (wp : Bool) where
       go Nothing q ih h = q
       go (Send e a) q ih h = ih (le-trans (falls (s .driver) (f 0)) (le-of-suc-le-suc h))
 
-  -- the step that stands is one of a state in range, and the polls in it are those of all cycles named
-  pub record Counted (s : Step) (t : Heard) : Type 0 where
-    pub stands : Kept (t .last)
-    pub limit : most (t .last .driver) ≡ most (s .driver)
-    pub sum : t .last .polls + pollsIn (named wp (s .next)) ≡ s .polls + (pollsIn (t .cycles) + pollsIn (named wp (t .last .next)))
+  -- the step that stands: of a state in range, that asks what was asked; and its state says what was named
+  pub record Stands (before : List Cycle) (s : Step) (t : Heard) : Type 0 where
+    pub kept : StepInRange (t .last)
+    pub asked : t .last .driver ≡ moved (s .driver) (t .last .driver .phase) (t .last .driver .count)
+    pub adds : Adds Cycle (asCycle wp) before s (t .last) (t .cycles)
 
-  pub counted : (n : ℕ) (f : ℕ → ℕ) (s : Step) → Kept s → Counted s (heard wp f n s)
+  pub stands : (n : ℕ) (f : ℕ → ℕ) (before : List Cycle) (s : Step) → StepInRange s → Stands before s (heard wp f n s)
   unfolding heard
-  counted zero f s k = record { stands = k; limit = refl; sum = omega arith }
-  counted (suc n) f s k = go (s .next) refl (counted n (λ j. f (suc j)) (stepOf (s .driver) (f 0)) (kept (s .driver) (f 0) (k .range)))
+  stands zero f before s k = record { kept = k; asked = refl; adds = stays Cycle (asCycle wp) before s }
+  stands (suc n) f before s k = go (s .next) refl (λ b. stands n (λ i. f (suc i)) b (stepOf (s .driver) (f 0)) (kept (s .driver) (f 0) (k .range)))
     where
-      go : (x : Next) → s .next ≡ x → Counted (stepOf (s .driver) (f 0)) (rest f n s) → Counted s (turn f n s x)
-      go Nothing q w = record { stands = k; limit = refl; sum = omega arith }
-      go (Send e a) q w = record { stands = w .stands; limit = w .limit ∙ limits (s .driver) (f 0); sum = rw q (omega (arith, w .sum, counts (s .driver) (f 0) wp (k .range), k .carried)) }
+      go : (x : Next) → s .next ≡ x → ((b : List Cycle) → Stands b (stepOf (s .driver) (f 0)) (rest f n s)) → Stands before s (turn f n s x)
+      go Nothing q w = record { kept = k; asked = refl; adds = stays Cycle (asCycle wp) before s }
+      go (Send e a) q w =
+          let t = w (before ++ (cycle e wp a ∷ [])) in
+          record {
+            kept = t .kept;
+            asked = t .asked ∙ ap (λ (d : Driver). moved d (rest f n s .last .driver .phase) (rest f n s .last .driver .count)) (asks-on (s .driver) (f 0));
+            adds = moves Cycle (asCycle wp) before s (rest f n s .last) e a (rest f n s .cycles) (f 0) q (k .range) (t .adds);
+          }

@@ -1,5 +1,6 @@
 pub mod Refusals
 pub mod Writes
 pub mod Machine
-pub mod Usual
+pub mod Fits
 pub mod Talk
+pub mod Reads

@@ -2,6 +2,7 @@
 use Prim.Native.Nat.{ℕ, _+_, _*_, _/_, _%_}
 use mathlib.Core.Bool.{Bool, true, false}
 use lib.Dec.{eqb, ltb, leb}
+use Rattle.parts.specs.Names.{PROGRAM, CHIP, BAD-STATE, GAVE-UP, DIFFERS}
 use Rattle.parts.specs.Pick.{pick}
 use Rattle.parts.specs.Width.{valueOf, blankOf}
 use Rattle.parts.specs.Table.{rowOf}
@@ -25,34 +26,38 @@ driver part command a x p f n = record { part = part; command = command; address
 -- ---- what is asked
 -- the operation's address: 0 for chip
 abbrev pub addressOf : ℕ → ℕ → ℕ
-addressOf command a = pick (eqb command 3) 0 a
+addressOf command a = pick (eqb command CHIP) 0 a
 
 -- the data that counts: an erase ignores it
 abbrev pub dataOf : ℕ → ℕ → ℕ
-dataOf command x = pick (eqb command 0) x 0
+dataOf command x = pick (eqb command PROGRAM) x 0
 
 abbrev pub bitSeven : ℕ → ℕ
 bitSeven x = x / 128 % 2
 
 -- bit 7 that ends the polling: the data's, or 1 for an erase
 abbrev pub bitWanted : ℕ → ℕ → ℕ
-bitWanted command x = pick (eqb command 0) (bitSeven x) 1
+bitWanted command x = pick (eqb command PROGRAM) (bitSeven x) 1
 
 -- what the confirming read must equal: the data, or blank
 abbrev pub valueWanted : Row → ℕ → ℕ → ℕ
-valueWanted r command x = pick (eqb command 0) x (blankOf (r .width))
+valueWanted r command x = pick (eqb command PROGRAM) x (blankOf (r .width))
 
 -- ---- the start
 -- a driver that has named nothing yet
 abbrev pub begun : ℕ → ℕ → ℕ → ℕ → ℕ → Driver
 begun part command a x p = driver part command (addressOf command a) (dataOf command x) p Writing 0
 
--- a refused start hands back an all-zero state
+-- no driver: the all-zero state
+abbrev pub noDriver : Driver
+noDriver = driver 0 0 0 0 0 Writing 0
+
+-- a refused start hands back the all-zero state
 unfoldable pub startOf : ℕ → ℕ → ℕ → ℕ → ℕ → Started
 startOf part command a x p =
     pick (eqb (startRefusal part command a x p) 0)
     (record { answer = 0; driver = begun part command a x p })
-    (record { answer = startRefusal part command a x p; driver = driver 0 0 0 0 0 Writing 0 })
+    (record { answer = startRefusal part command a x p; driver = noDriver })
 
 -- ---- the states in range
 -- it gives up after 2N polls
@@ -92,8 +97,8 @@ ending Writing = 0
 ending Polling = 0
 ending Confirming = 0
 ending Done = 0
-ending GaveUp = 11
-ending Differs = 12
+ending GaveUp = GAVE-UP
+ending Differs = DIFFERS
 
 -- the phases that end
 abbrev pub final : Phase → Bool
@@ -103,6 +108,23 @@ final Confirming = false
 final Done = true
 final GaveUp = true
 final Differs = true
+
+-- the phases in which the writes are still being named, and those in which the confirming read has been
+abbrev pub writing : Phase → Bool
+writing Writing = true
+writing Polling = false
+writing Confirming = false
+writing Done = false
+writing GaveUp = false
+writing Differs = false
+
+abbrev pub confirmed : Phase → Bool
+confirmed Writing = false
+confirmed Polling = false
+confirmed Confirming = true
+confirmed Done = true
+confirmed GaveUp = false
+confirmed Differs = true
 
 -- the end, which a finished driver repeats
 abbrev pub ended : Driver → Phase → Step
@@ -123,9 +145,13 @@ writingOf r d = step 0 (afterWrite d) (Send 0 (Write (nextWrite r d .address) (n
 abbrev pub polls : Driver → Step
 polls d = step 0 (moved d Polling (d .count + 1)) (Send (d .p) (Read (addressOf (d .command) (d .address)))) (d .count + 1)
 
--- the confirming read, at 0 µs
+-- the µs from the last poll to the confirming read
+unfoldable pub confirmAfter : ℕ
+confirmAfter = 0
+
+-- the confirming read
 abbrev pub confirms : Driver → Step
-confirms d = step 0 (moved d Confirming (d .count)) (Send 0 (Read (addressOf (d .command) (d .address)))) (d .count)
+confirms d = step 0 (moved d Confirming (d .count)) (Send confirmAfter (Read (addressOf (d .command) (d .address)))) (d .count)
 
 -- the reply to a poll shows the wanted bit 7
 unfoldable pub matches : Driver → ℕ → Bool
@@ -151,4 +177,10 @@ phaseOf r Differs d read = ended d Differs
 
 -- given the value last read, the next cycle or the end; 5, with the state handed back, for one out of range
 unfoldable pub stepOf : Driver → ℕ → Step
-stepOf d read = pick (inRange d) (phaseOf (rowOf (d .part)) (d .phase) d read) (step 5 d Nothing 0)
+stepOf d read = pick (inRange d) (phaseOf (rowOf (d .part)) (d .phase) d read) (step BAD-STATE d Nothing 0)
+
+-- a start and its first step at once; a refused start names nothing
+unfoldable pub startWriting : ℕ → ℕ → ℕ → ℕ → ℕ → Step
+startWriting part command a x p =
+    pick (eqb (startOf part command a x p .answer) 0) (stepOf (startOf part command a x p .driver) 0)
+    (step (startOf part command a x p .answer) (startOf part command a x p .driver) Nothing 0)

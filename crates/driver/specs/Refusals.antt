@@ -1,7 +1,8 @@
 -- The refusals of a command and of a driver's start, in document 01's order.
 use Prim.Native.Nat.{ℕ}
 use lib.Dec.{eqb, ltb}
-use Rattle.parts.specs.Pick.{pick}
+use Rattle.parts.specs.Names.{PROGRAM, CHIP, NO-ADDRESS, WIDE-DATA, BAD-INTERVAL, NO-COMMAND}
+use Rattle.parts.specs.Pick.{_when_, _unless_, _else_, _orElse_}
 use Rattle.parts.specs.Width.{fitsIn}
 use Rattle.parts.specs.Table.{foundOf}
 use Rattle.parts.specs.Time.{hasCommand}
@@ -10,21 +11,19 @@ use Rattle.parts.specs.declared.table.Found.{Found}
 
 -- 4 for data that does not fit, of a program only
 unfoldable pub dataRefusal : Row → ℕ → ℕ → ℕ
-dataRefusal r command x = pick (eqb command 0) (pick (fitsIn (r .width) x) 0 4) 0
+dataRefusal r command x = 0 unless eqb command PROGRAM else WIDE-DATA unless fitsIn (r .width) x else 0
 
 -- 14 for a command that the part does not have; 3 for an address at or past the cells, but not of a chip erase; 4
 unfoldable pub targetRefusal : Row → ℕ → ℕ → ℕ → ℕ
 targetRefusal r command a x =
-    pick (hasCommand r command)
-    (pick (eqb command 3) 0
-    (pick (ltb a (r .cells)) (dataRefusal r command x) 3))
-    14
+    NO-COMMAND unless hasCommand r command
+    else 0 when eqb command CHIP
+    else NO-ADDRESS unless ltb a (r .cells)
+    else dataRefusal r command x
 
 -- of a command's writes, on a part that was looked up
 abbrev pub commandOn : Found → ℕ → ℕ → ℕ → ℕ
-commandOn f command a x =
-    pick (ltb 0 (f .answer)) (f .answer)
-    (targetRefusal (f .row) command a x)
+commandOn f command a x = f .answer orElse targetRefusal (f .row) command a x
 
 -- of a command's writes: 1, 14, 3, 4
 unfoldable pub commandRefusal : ℕ → ℕ → ℕ → ℕ → ℕ
@@ -33,10 +32,10 @@ commandRefusal part command a x = commandOn (foundOf part) command a x
 -- of a driver's start, on a part that was looked up: 10 for a polling interval that is not 1 to 1,000
 abbrev pub startOn : Found → ℕ → ℕ → ℕ → ℕ → ℕ
 startOn f command a x p =
-    pick (ltb 0 (f .answer)) (f .answer)
-    (pick (eqb p 0) 10
-    (pick (ltb 1000 p) 10
-    (targetRefusal (f .row) command a x)))
+    f .answer
+    orElse BAD-INTERVAL when eqb p 0
+    else BAD-INTERVAL when ltb 1000 p
+    else targetRefusal (f .row) command a x
 
 -- of a driver's start: 1, 10, 14, 3, 4
 unfoldable pub startRefusal : ℕ → ℕ → ℕ → ℕ → ℕ → ℕ

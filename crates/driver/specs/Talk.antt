@@ -1,28 +1,25 @@
 -- A driver against the model of the chip, and against any replies.
 use Prim.Native.Nat.{ℕ, zero, suc, _+_}
 use mathlib.Core.Bool.{Bool}
-use mathlib.Core.List.{List, [], _∷_, map}
-use lib.Dec.{ltb}
-use lib.ListN.{getD}
+use mathlib.Core.List.{List, [], _∷_, _++_, map}
+use lib.ListN.{getD, replicate}
 use Rattle.parts.specs.Pick.{pick}
 use Rattle.parts.specs.Width.{valueOf}
 use Rattle.parts.specs.declared.table.Row.{Row}
 use Rattle.chip.specs.declared.device.Operation.{Operation}
 use Rattle.chip.specs.declared.cycle.Action.{Action}
-use Rattle.chip.specs.declared.cycle.Action.the-variants.{Read, Write, Idle, Cut}
+use Rattle.chip.specs.declared.cycle.Action.the-variants.{Read, Write}
 use Rattle.chip.specs.declared.cycle.Cycle.{Cycle}
 use Rattle.chip.specs.Operation.{completeOn}
 use Rattle.chip.specs.Sequence.{newOperation}
-use Rattle.chip.specs.Cycle.{Chip, cycleOf}
+use Rattle.chip.specs.Cycle.{cycle, Chip, cycleOf}
 use Rattle.chip.specs.Trace.{after}
 use Rattle.commands.specs.declared.write.Write.{Write as Written}
+use Rattle.driver.specs.declared.machine.Phase.{Phase}
 use Rattle.driver.specs.declared.machine.Next.the-variants.{Nothing, Send}
 use Rattle.driver.specs.declared.machine.Step.{Step}
-use Rattle.driver.specs.Writes.{lastWrite}
-use Rattle.driver.specs.Machine.{addressOf, stepOf}
-
-abbrev pub cycle : ℕ → Bool → Action → Cycle
-cycle e wp a = record { elapsed = e; wp = wp; action = a }
+use Rattle.driver.specs.Writes.{lastWrite, writesOf}
+use Rattle.driver.specs.Machine.{addressOf, confirmAfter, confirmed, stepOf}
 
 -- writes, as cycles at 0 µs
 abbrev pub writeCycle : Bool → Written → Cycle
@@ -30,6 +27,12 @@ writeCycle wp w = cycle 0 wp (Write (w .address) (w .«data»))
 
 abbrev pub writeCycles : Bool → List Written → List Cycle
 writeCycles wp ws = map (writeCycle wp) ws
+
+-- the cycles of an operation by their places: its writes, n polls p apart, and the confirming read once a phase is reached that follows it
+abbrev pub operationCycles : Row → Bool → ℕ → ℕ → ℕ → ℕ → ℕ → Phase → List Cycle
+operationCycles r wp command a x p n f =
+    writeCycles wp (writesOf r command a x)
+    ++ (replicate n (cycle p wp (Read (addressOf command a))) ++ pick (confirmed f) (cycle confirmAfter wp (Read (addressOf command a)) ∷ []) [])
 
 -- the operation that a command's last write starts, with its table time left
 abbrev pub operationOf : Row → ℕ → ℕ → ℕ → Operation
@@ -86,15 +89,3 @@ heard wp f (suc n) s =
       | Nothing ↦ heardOf [] s
       | Send e a ↦ heardOf (cycle e wp a ∷ heard wp (λ i. f (suc i)) n (stepOf (s .driver) (f 0)) .cycles) (heard wp (λ i. f (suc i)) n (stepOf (s .driver) (f 0)) .last)
     ]
-
--- a poll is a read after some time; the confirming read, at 0 µs, is none
-abbrev pub isPoll : Action → ℕ → ℕ
-isPoll (Read a) e = pick (ltb 0 e) 1 0
-isPoll (Write a x) e = 0
-isPoll Idle e = 0
-isPoll (Cut x) e = 0
-
--- how many of the cycles are polls
-abbrev pub pollsIn : List Cycle → ℕ
-pollsIn [] = 0
-pollsIn (c ∷ cs) = isPoll (c .action) (c .elapsed) + pollsIn cs

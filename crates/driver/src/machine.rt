@@ -5,13 +5,21 @@ use crate::writes::write_count;
 use chip::Action;
 use parts::Found;
 use parts::Row;
+use parts::names::BAD_STATE;
+use parts::names::CHIP;
+use parts::names::DIFFERS;
+use parts::names::GAVE_UP;
+use parts::names::PROGRAM;
 ghost use mathlib.Core.Path.{_≡_};
 ghost use Prim.Native.Nat.{_<_, _≤_};
 ghost use lib.Dec.{eqb, leb, ltb};
 ghost use Rattle.parts.specs.Table.{foundOf};
-ghost use Rattle.driver.specs.Machine.{addressOf, afterWrite, bitSeven, bitWanted, confirmingOf, confirms, countFits, dataOf, driver, inRange, matches, mostPolls, moved, pollingOf, polls, someUpTo, startOf, step, stepOf, valueWanted, writingOf};
-ghost use Rattle.driver.specs.Usual.{Usual};
+ghost use Rattle.driver.specs.Machine.{addressOf, afterWrite, bitSeven, bitWanted, confirmingOf, confirms, countFits, dataOf, driver, inRange, matches, mostPolls, moved, pollingOf, polls, someUpTo, startOf, startWriting, step, stepOf, valueWanted, writingOf};
+ghost use Rattle.driver.specs.Fits.{CodesAndTimesFit};
 ghost use Rattle.driver.specs.Writes.{writeCount};
+
+// The µs from the last poll to the confirming read.
+pub const CONFIRM_AFTER: u32 = 0;
 
 // The writes are named one by one; then polls; then the confirming read; then one of three ends.
 pub enum Phase {
@@ -60,7 +68,7 @@ pub struct Step {
 fn address_of(command: u32, address: u32) -> u32
     ensures { λ r. ⌜ r ≡ addressOf command address ⌝ }
 {
-    if command == 3 {
+    if command == CHIP {
         return 0;
     }
     address
@@ -70,7 +78,7 @@ fn address_of(command: u32, address: u32) -> u32
 fn data_of(command: u32, data: u16) -> u16
     ensures { λ r. ⌜ r ≡ dataOf command «data» ⌝ }
 {
-    if command == 0 {
+    if command == PROGRAM {
         return data;
     }
     0
@@ -87,7 +95,7 @@ fn bit_seven(x: u16) -> u16
 fn bit_wanted(command: u32, data: u16) -> u16
     ensures { λ r. ⌜ r ≡ bitWanted command «data» ⌝ }
 {
-    if command == 0 {
+    if command == PROGRAM {
         return bit_seven(data);
     }
     1
@@ -98,7 +106,7 @@ fn value_wanted(row: Row, command: u32, data: u16) -> u16
     requires { ⌜ row .width ≤ 16 ⌝ }
     ensures { λ r. ⌜ r ≡ valueWanted row command «data» ⌝ }
 {
-    if command == 0 {
+    if command == PROGRAM {
         return data;
     }
     parts::blank(row.width)
@@ -119,11 +127,11 @@ fn begin(part: u32, command: u32, address: u32, data: u16, p: u32) -> Driver
     }
 }
 
-// Starts a command, 0 program, 1 sector, 2 block, 3 chip, polled every p µs: refusals 1, 10, 14, 3, 4.
-pub fn start(part: u32, command: u32, address: u32, data: u16, p: u32) -> Started
+// Starts a command on a part that was looked up.
+fn start_on(found: Found, part: u32, command: u32, address: u32, data: u16, p: u32) -> Started
+    requires { ⌜ found ≡ foundOf part ⌝ }
     ensures { λ r. ⌜ r ≡ startOf part command address «data» p ⌝ }
 {
-    let found = parts::part_row(part);
     let answer = start_refusal(found, command, address, data, p);
     if 0 < answer {
         return Started {
@@ -136,6 +144,33 @@ pub fn start(part: u32, command: u32, address: u32, data: u16, p: u32) -> Starte
     Started {
         answer: 0,
         driver: begin(part, command, a, x, p),
+    }
+}
+
+// Starts a command, polled every p µs: refusals 1, 10, 14, 3, 4.
+pub fn start(part: u32, command: u32, address: u32, data: u16, p: u32) -> Started
+    ensures { λ r. ⌜ r ≡ startOf part command address «data» p ⌝ }
+{
+    let found = parts::part_row(part);
+    start_on(found, part, command, address, data, p)
+}
+
+// Starts a command and names its first write at once: the same refusals.
+pub fn start_writing(part: u32, command: u32, address: u32, data: u16, p: u32) -> Step
+    ensures { λ r. ⌜ r ≡ startWriting part command address «data» p ⌝ }
+{
+    let found = parts::part_row(part);
+    let started = start_on(found, part, command, address, data, p);
+    let d = started.driver;
+    if started.answer == 0 {
+        let row = found.row;
+        return d.write_on(row);
+    }
+    Step {
+        answer: started.answer,
+        driver: d,
+        next: Next::Nothing,
+        polls: 0,
     }
 }
 
@@ -253,7 +288,7 @@ impl Driver {
 
     // Names the next write.
     fn write_on(self, row: Row) -> Step
-        requires { ⌜ Usual row ⌝ }
+        requires { ⌜ CodesAndTimesFit row ⌝ }
         requires { ⌜ self .count < writeCount (self .command) ⌝ }
         ensures { λ r. ⌜ r ≡ writingOf row self ⌝ }
     {
@@ -298,7 +333,7 @@ impl Driver {
         Step {
             answer: 0,
             driver: self.moved_to(Phase::Confirming, polls),
-            next: Next::Send(0, action),
+            next: Next::Send(CONFIRM_AFTER, action),
             polls,
         }
     }
@@ -315,7 +350,7 @@ impl Driver {
 
     // Polls on, confirms or gives up.
     fn poll_on(self, row: Row, read: u16) -> Step
-        requires { ⌜ Usual row ⌝ }
+        requires { ⌜ CodesAndTimesFit row ⌝ }
         requires { ⌜ 0 < self .p ⌝ }
         ensures { λ r. ⌜ r ≡ pollingOf row self read ⌝ }
     {
@@ -325,7 +360,7 @@ impl Driver {
         if self.polls_left(row, self.count) {
             return self.poll();
         }
-        self.end(Phase::GaveUp, 11)
+        self.end(Phase::GaveUp, GAVE_UP)
     }
 
     // Compares the confirming read.
@@ -336,7 +371,7 @@ impl Driver {
         if parts::value(row.width, read) == value_wanted(row, self.command, self.data) {
             return self.end(Phase::Done, 0);
         }
-        self.end(Phase::Differs, 12)
+        self.end(Phase::Differs, DIFFERS)
     }
 
     // Given the value last read, names the next cycle or the end: 5 for a state out of range.
@@ -346,7 +381,7 @@ impl Driver {
         let found = parts::part_row(self.part);
         if !self.in_range(found) {
             return Step {
-                answer: 5,
+                answer: BAD_STATE,
                 driver: self,
                 next: Next::Nothing,
                 polls: 0,
@@ -359,8 +394,8 @@ impl Driver {
             Phase::Polling => self.poll_on(row, read),
             Phase::Confirming => self.compare(row, read),
             Phase::Done => self.end(Phase::Done, 0),
-            Phase::GaveUp => self.end(Phase::GaveUp, 11),
-            Phase::Differs => self.end(Phase::Differs, 12),
+            Phase::GaveUp => self.end(Phase::GaveUp, GAVE_UP),
+            Phase::Differs => self.end(Phase::Differs, DIFFERS),
         }
     }
 }

@@ -1,6 +1,12 @@
 // The refusals of a command and of a driver's start, in document 01's order.
 use parts::Found;
 use parts::Row;
+use parts::names::BAD_INTERVAL;
+use parts::names::CHIP;
+use parts::names::NO_ADDRESS;
+use parts::names::NO_COMMAND;
+use parts::names::PROGRAM;
+use parts::names::WIDE_DATA;
 ghost use mathlib.Core.Path.{_≡_};
 ghost use Rattle.driver.specs.Refusals.{commandOn, dataRefusal, startOn, targetRefusal};
 
@@ -8,11 +14,11 @@ ghost use Rattle.driver.specs.Refusals.{commandOn, dataRefusal, startOn,
 fn data_refusal(row: Row, command: u32, data: u16) -> u32
     ensures { λ r. ⌜ r ≡ dataRefusal row command «data» ⌝ }
 {
-    if command == 0 {
-        if parts::fits(row.width, data) {
-            return 0;
-        }
-        return 4;
+    if command != PROGRAM {
+        return 0;
+    }
+    if !parts::fits(row.width, data) {
+        return WIDE_DATA;
     }
     0
 }
@@ -22,13 +28,13 @@ fn target_refusal(row: Row, command: u32, address: u32, data: u16) -> u32
     ensures { λ r. ⌜ r ≡ targetRefusal row command address «data» ⌝ }
 {
     if !row.has_command(command) {
-        return 14;
+        return NO_COMMAND;
     }
-    if command == 3 {
+    if command == CHIP {
         return 0;
     }
     if row.cells <= address {
-        return 3;
+        return NO_ADDRESS;
     }
     data_refusal(row, command, data)
 }
@@ -54,10 +60,10 @@ pub(crate) fn start_refusal(found: Found, command: u32, address: u32, data: u16,
         return answer;
     }
     if p == 0 {
-        return 10;
+        return BAD_INTERVAL;
     }
     if 1000 < p {
-        return 10;
+        return BAD_INTERVAL;
     }
     let row = found.row;
     target_refusal(row, command, address, data)

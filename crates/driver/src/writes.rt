@@ -2,11 +2,15 @@
 use crate::refusals::command_refusal;
 use commands::Write;
 use parts::Row;
+use parts::names::BLOCK;
+use parts::names::NO_ENTRY;
+use parts::names::PROGRAM;
+use parts::names::SECTOR;
 ghost use mathlib.Core.Path.{_≡_};
 ghost use Prim.Native.Nat.{_<_};
 ghost use lib.Dec.{eqb};
 ghost use Rattle.parts.specs.Pick.{pick};
-ghost use Rattle.driver.specs.Usual.{Usual};
+ghost use Rattle.driver.specs.Fits.{CodesAndTimesFit};
 ghost use Rattle.driver.specs.Writes.{commandWrites, kthWrite, lastWrite, nthWrite, write, writeCount, writes, writesOf};
 
 // One command's writes: 0 or the refusal, how many they are, and the writes, unused places zero.
@@ -27,7 +31,7 @@ pub struct Kth {
 pub(crate) fn write_count(command: u32) -> u32
     ensures { λ r. ⌜ r ≡ writeCount command ⌝ }
 {
-    if command == 0 {
+    if command == PROGRAM {
         return 4;
     }
     6
@@ -57,7 +61,7 @@ fn unlock_two(row: Row) -> Write
 fn third_write(row: Row, command: u32) -> Write
     ensures { λ r. ⌜ r ≡ write (row .u1) (pick (eqb command 0) 0xa0 0x80) ⌝ }
 {
-    if command == 0 {
+    if command == PROGRAM {
         return Write {
             address: row.u1,
             data: 0xa0,
@@ -71,20 +75,20 @@ fn third_write(row: Row, command: u32) -> Write
 
 // The write that starts the operation.
 fn last_write(row: Row, command: u32, address: u32, data: u16) -> Write
-    requires { ⌜ Usual row ⌝ }
+    requires { ⌜ CodesAndTimesFit row ⌝ }
     ensures { λ r. ⌜ r ≡ lastWrite row command address «data» ⌝ }
 {
-    if command == 0 {
+    if command == PROGRAM {
         return Write { address, data };
     }
-    if command == 1 {
+    if command == SECTOR {
         let code = row.sector_code as u16;
         return Write {
             address,
             data: code,
         };
     }
-    if command == 2 {
+    if command == BLOCK {
         let code = row.block_code as u16;
         return Write {
             address,
@@ -99,7 +103,7 @@ fn last_write(row: Row, command: u32, address: u32, data: u16) -> Write
 
 // The writes of a command in six places.
 fn writes_of(row: Row, command: u32, address: u32, data: u16) -> Writes
-    requires { ⌜ Usual row ⌝ }
+    requires { ⌜ CodesAndTimesFit row ⌝ }
     ensures { λ r. ⌜ r ≡ writes 0 (writeCount command) (writesOf row command address «data») ⌝ }
 {
     let none = Write {
@@ -110,7 +114,7 @@ fn writes_of(row: Row, command: u32, address: u32, data: u16) -> Writes
     let two = unlock_two(row);
     let three = third_write(row, command);
     let last = last_write(row, command, address, data);
-    if command == 0 {
+    if command == PROGRAM {
         return Writes {
             answer: 0,
             count: 4,
@@ -126,7 +130,7 @@ fn writes_of(row: Row, command: u32, address: u32, data: u16) -> Writes
 
 // The k-th of a command's writes.
 pub(crate) fn nth_write(row: Row, command: u32, address: u32, data: u16, k: u32) -> Write
-    requires { ⌜ Usual row ⌝ }
+    requires { ⌜ CodesAndTimesFit row ⌝ }
     requires { ⌜ k < writeCount command ⌝ }
     ensures { λ r. ⌜ r ≡ nthWrite row command address «data» k ⌝ }
 {
@@ -142,7 +146,7 @@ pub(crate) fn nth_write(row: Row, command: u32, address: u32, data: u16, k: u32)
     }
 }
 
-// One command's writes together, 0 program, 1 sector, 2 block, 3 chip: refusals 1, 14, 3, 4.
+// One command's writes together: refusals 1, 14, 3, 4.
 pub fn command_writes(part: u32, command: u32, address: u32, data: u16) -> Writes
     ensures { λ r. ⌜ r ≡ commandWrites part command address «data» ⌝ }
 {
@@ -184,7 +188,7 @@ pub fn kth_write(part: u32, command: u32, address: u32, data: u16, k: u32) -> Kt
         return refused(answer);
     }
     if write_count(command) <= k {
-        return refused(15);
+        return refused(NO_ENTRY);
     }
     let row = found.row;
     let w = nth_write(row, command, address, data, k);

@@ -2,7 +2,8 @@
 use Prim.Native.Nat.{ℕ, _+_, _*_, _≤_}
 use mathlib.Core.Path.{_≡_, refl, sym, ap, _∙_}
 use mathlib.Core.Bool.{Bool}
-use mathlib.Core.List.{List}
+use mathlib.Core.Logic.{inl, inr}
+use mathlib.Core.List.{List, [], map, append-nil}
 use native.Mathlib.Nat.{zero-add}
 use native.Mathlib.Omega.{arith}
 use borrow.Author.Tests.{eq-eqb}
@@ -15,6 +16,8 @@ use Rattle.chip.specs.declared.cycle.Cycle.{Cycle}
 use Rattle.chip.specs.Device.{freshDevice}
 use Rattle.chip.specs.Cycle.{Chip, chip}
 use Rattle.chip.specs.Trace.{play, startedIn}
+use Rattle.driver.specs.Machine.{confirmAfter}
+use Rattle.driver.specs.Reads.{Scans, Polls, Confirms, Place, placesIn, howMany}
 use Rattle.chip.proofs.Idle.{fresh-idle}
 use Rattle.job.specs.declared.loader.Job.{Job}
 use Rattle.job.specs.declared.run.Tally.{Tally}
@@ -25,12 +28,12 @@ use Rattle.job.specs.Bill.{jobOf, fullOf, played, playedAll, loadOf, reportOf}
 use Rattle.job.specs.Formulas.{tallyOf}
 use Rattle.job.proofs.Accepts.{Passed, passed}
 use Rattle.job.proofs.Counts.{play-tally, play-sent, job-fair, time-most}
-use Rattle.invoice.specs.Started.{cyclesIn, sumIn, aPoll, aRead, theTime, tableTime}
-use Rattle.invoice.specs.Invoice.{started, Invoice, Partly, Rival}
-use Rattle.invoice.proofs.Honest.{contents, every-take, cycles-take}
+use Rattle.invoice.specs.Started.{cyclesIn, timeIn, tableTime}
+use Rattle.invoice.specs.Invoice.{started, placesSent, Invoice, Partly, Rival}
+use Rattle.invoice.proofs.Placed.{placedAs, contents, map-take, places-take}
 use Rattle.invoice.proofs.Starts.{world-plays}
-use Rattle.invoice.proofs.Image.{image-held}
-use Rattle.invoice.proofs.Least.{held, job-times, no-less}
+use Rattle.invoice.proofs.Image.{job-started}
+use Rattle.invoice.proofs.Least.{held, cells-left, image-left, others-left, job-times, no-less}
 
 module _ (part : ℕ) (cells : List ℕ) (first : ℕ) (image : List ℕ) (wp : Bool) (p : ℕ) (accepted : jobRefusal part (length cells) first image wp p ≡ 0) where
   abbrev j : Job
@@ -42,23 +45,31 @@ module _ (part : ℕ) (cells : List ℕ) (first : ℕ) (image : List ℕ) (wp : 
   pub tally-is : playedAll part cells first image wp p .held .tally ≡ tallyOf (sentOf j image cells)
   tally-is = play-tally part (world cells noneSent) (sentOf j image cells) ∙ simp zero-add
 
+  -- in their places the job's cycles are what their purposes say
+  places : placesSent part cells first image wp p ≡ map placedAs (sentOf j image cells)
+  places =
+      let L = sentOf j image cells in
+      ap (placesIn part Scans (chip cells freshDevice)) (sym (append-nil (cyclesIn L))) ∙ (held j image (ok .right) cells (ok .whole) .placed [] ∙ append-nil (map placedAs L))
+
   pub invoice : Invoice part cells first image wp p (loadOf part cells first image wp p)
-  unfolding loadOf fullOf
+  unfolding loadOf fullOf confirmAfter
   invoice =
-      let h = image-held j image (ok .right) cells (ok .whole) (sector-some (rowOf part .width)) in
+      let h = job-started j image (ok .right) cells (ok .whole) (sector-some (rowOf part .width)) in
       let f = job-fair j image (ok .right) cells (ok .whole) in
       let t = tally-is in
       let s = held j image (ok .right) cells (ok .whole) in
-      let c = contents (sentOf j image cells) (s .said) in
+      let c = contents (sentOf j image cells) in
+      let e = places in
+      let q = cells-left j image (ok .right) cells (ok .whole) in
       rw (eq-eqb (jobRefusal part (length cells) first image wp p) 0 accepted)
       (record {
-        holds = h .holds;
-        below = h .below;
-        above = h .above;
+        holds = rw q (image-left j image (ok .right) cells (ok .whole));
+        below = λ i l. rw q (others-left j image (ok .right) cells (ok .whole) i (inl l));
+        above = λ i l. rw q (others-left j image (ok .right) cells (ok .whole) i (inr l));
         rests = h .ready .rest;
         answer = refl;
         polls = rw t (f .polls);
-        spent = rw t (f .spent);
+        spent = rw t (omega (arith, f .spent));
         confirms = rw t (f .confirms);
         scans = rw t (f .scans);
         saved = rw t (omega (arith, time-most j image (ok .right) cells (ok .whole)));
@@ -67,8 +78,9 @@ module _ (part : ℕ) (cells : List ℕ) (first : ℕ) (image : List ℕ) (wp : 
         programs = rw (t, s .begun) (s .programs);
         blocks = rw (s .begun) (s .blocks);
         chips = rw (s .begun) (s .chips);
-        polled = rw t (c .polls);
-        read = rw t (c .reads);
+        polled = rw (t, e) (c .polls);
+        scanned = rw (t, e) (c .scans);
+        confirmed = rw (t, e) (c .confirms);
         timed = rw t (c .time);
       })
 
@@ -77,16 +89,18 @@ module _ (part : ℕ) (cells : List ℕ) (first : ℕ) (image : List ℕ) (wp : 
   unfolding reportOf
   partly k =
       let L = sentOf j image cells in
-      let s = held j image (ok .right) cells (ok .whole) in
-      let c = contents (take k L) (every-take k L (s .said)) in
-      let e = cycles-take k L in
+      let c = contents (take k L) in
+      let e = map-take Cycle (λ (s : Sent). s .cycle) k L in
+      let q : map placedAs (take k L) ≡ placesIn part Scans (chip cells freshDevice) (take k (cyclesIn L)) =
+      map-take Place placedAs k L ∙ (ap (take k) (sym places) ∙ sym (places-take part Scans (chip cells freshDevice) k (cyclesIn L))) in
       let t : played part cells first image wp p k .held .tally ≡ tallyOf (take k L) = play-tally part (world cells noneSent) (take k L) ∙ simp zero-add in
       rw (eq-eqb (jobRefusal part (length cells) first image wp p) 0 accepted)
       (record {
         played = ap (λ (h : Chip). h .cells) (world-plays part (world cells noneSent) (take k L)) ∙ ap (λ (cs : List Cycle). play part (chip cells freshDevice) cs .cells) e;
-        polled = ap (λ (t : Tally). t .polls) t ∙ (c .polls ∙ ap (sumIn aPoll) e);
-        read = ap (λ (t : Tally). t .scans + t .confirms) t ∙ (c .reads ∙ ap (sumIn aRead) e);
-        timed = ap (λ (t : Tally). t .time) t ∙ (c .time ∙ ap (sumIn theTime) e);
+        polled = ap (λ (t : Tally). t .polls) t ∙ (c .polls ∙ ap (howMany Polls) q);
+        scanned = ap (λ (t : Tally). t .scans) t ∙ (c .scans ∙ ap (howMany Scans) q);
+        confirmed = ap (λ (t : Tally). t .confirms) t ∙ (c .confirms ∙ ap (howMany Confirms) q);
+        timed = ap (λ (t : Tally). t .time) t ∙ (c .time ∙ ap timeIn e);
         sent = play-sent part (world cells noneSent) (take k L) ∙ (zero-add (length (take k L)) ∙ (sym (length-map (take k L) (λ (s : Sent). s .cycle)) ∙ ap length e));
         answer = refl;
       })
@@ -102,7 +116,7 @@ module _ (part : ℕ) (cells : List ℕ) (first : ℕ) (image : List ℕ) (wp : 
   pub job-rivals : Rival part cells first image freshDevice (cyclesIn (sentOf j image cells))
   job-rivals =
       let s = held j image (ok .right) cells (ok .whole) in
-      let h = image-held j image (ok .right) cells (ok .whole) (sector-some (rowOf part .width)) in
+      let h = job-started j image (ok .right) cells (ok .whole) (sector-some (rowOf part .width)) in
       let e = world-plays part (world cells noneSent) (sentOf j image cells) in
       record {
         begins = fresh-idle;
@@ -110,7 +124,7 @@ module _ (part : ℕ) (cells : List ℕ) (first : ℕ) (image : List ℕ) (wp : 
         blocks = rw (s .begun) (s .blocks);
         chips = rw (s .begun) (s .chips);
         ends = rw (← e, h .ready .rest) fresh-idle;
-        holds = rw (← e) (h .holds);
+        holds = rw (← e) (rw (cells-left j image (ok .right) cells (ok .whole)) (image-left j image (ok .right) cells (ok .whole)));
       }
 
   -- and those table times are of the bill's erases and programs

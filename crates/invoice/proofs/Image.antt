@@ -3,11 +3,10 @@ use Prim.Native.Nat.{ℕ, zero, suc, _+_, _-_, _*_, _/_, _%_, _≤_, _<_}
 use mathlib.Core.Path.{_≡_, refl, sym, ap, _∙_}
 use mathlib.Core.Bool.{Bool, true, false}
 use mathlib.Core.List.{List, [], _∷_, _++_, map}
-use native.Mathlib.Nat.{le-refl, not-suc-le-zero, add-mod-right, zero-mul, suc-mul, div-add-mod'}
+use native.Mathlib.Nat.{le-refl, add-mod-right, zero-mul, suc-mul, div-add-mod'}
 use native.Mathlib.Omega.{arith}
-use borrow.Author.Tests.{eqb-true, ltb-true, ltb-false}
-use lib.Dec.{eqb, ltb}
-use lib.ListN.{length, getD, take, drop, replicate, length-set, length-drop, List·getD-append}
+use lib.Dec.{eqb}
+use lib.ListN.{length, getD, take, drop, replicate, length-set, length-drop}
 use lib.Seq.{length-take-le, getD-take, getD-drop, getD-set-other}
 use lib.Bits.{bitAnd}
 use Rattle.parts.specs.Pick.{pick}
@@ -20,7 +19,7 @@ use Rattle.chip.specs.Sequence.{ignored}
 use Rattle.chip.specs.declared.cycle.Action.the-variants.{Read}
 use Rattle.chip.specs.declared.device.Operation.{Operation}
 use Rattle.chip.specs.Device.{freshDevice}
-use Rattle.chip.specs.Cycle.{Chip, chip}
+use Rattle.chip.specs.Cycle.{cycle, Chip, chip}
 use Rattle.chip.specs.Trace.{after, play}
 use Rattle.chip.proofs.Idle.{fresh-idle}
 use Rattle.driver.specs.declared.machine.Next.{Next}
@@ -28,20 +27,23 @@ use Rattle.driver.specs.declared.machine.Next.the-variants.{Nothing, Send}
 use Rattle.driver.specs.declared.machine.Step.{Step}
 use Rattle.driver.specs.Refusals.{startRefusal}
 use Rattle.driver.specs.Writes.{writesOf, writeCount}
-use Rattle.driver.specs.Machine.{addressOf, valueWanted, startOf, stepOf}
-use Rattle.driver.specs.Talk.{talk, writeCycles, operationOf, completed, shownAfter, shows, cycle}
+use Rattle.driver.specs.Machine.{addressOf, confirmAfter, valueWanted, startOf, stepOf}
+use Rattle.driver.specs.Talk.{talk, writeCycles, operationOf, completed, shownAfter, shows}
 use Rattle.driver.proofs.Theorems.{succeeds, program-shows, erase-shows}
 use Rattle.job.specs.declared.loader.Job.{Job}
-use Rattle.job.specs.Search.{rises}
+use Rattle.job.specs.declared.search.Decision.{Decision}
+use Rattle.job.specs.declared.search.Decision.the-variants.{NoErase, SectorErase}
+use Rattle.job.specs.Search.{decisionOf}
 use Rattle.job.specs.Run.{Sent, World, world, noneSent, playOf}
-use Rattle.job.specs.Sent.{operated, scanRead, scans, fills, looks, sectorSent, sectorsSent, sentOf}
-use Rattle.job.proofs.Rest.{chipOf, talk-stops, talk-goes}
-use Rattle.job.proofs.Right.{Right, program-starts, erase-starts, fit-at}
+use Rattle.job.specs.Sent.{operated, scanRead, scans, fills, looks, carries, decidedOn, sectorSent, sectorsSent, sentOf}
+use Rattle.driver.proofs.Talks.{talk-stops, talk-goes}
+use Rattle.job.proofs.Rest.{chipOf}
+use Rattle.job.proofs.AcceptedJob.{AcceptedJob, program-starts, erase-starts, fit-at}
 use Rattle.job.proofs.Clears.{cleared}
-use Rattle.job.proofs.Left.{program-leaves, erase-length, erase-drop, erase-at, erase-leaves}
+use Rattle.job.proofs.Left.{program-leaves, erase-length, erase-drop, erase-at}
 use Rattle.job.proofs.Sectors.{Ready, Read-on, reads-on}
 use Rattle.invoice.specs.Started.{cyclesIn}
-use Rattle.invoice.proofs.Listed.{programming, filling, looking, sectoring, sectoringAll, operationsOf}
+use Rattle.invoice.proofs.Listed.{programming, filling, looking, carrying, sectoring, sectoringAll, operationsOf}
 use Rattle.invoice.proofs.Starts.{world-plays, play-append, operated-cycles, Starts, starts-none, starts-append, starts-read, starts-operated}
 
 -- ---- a talk leaves what its cycles leave
@@ -57,7 +59,7 @@ unfolding talk
 talk-plays part wp zero t h = refl
 talk-plays part wp (suc m) t h = plays-on part wp m (talk-plays part wp m) t h (t .next) refl
 
-module _ (j : Job) (image : List ℕ) (R : Right j image) where
+module _ (j : Job) (image : List ℕ) (R : AcceptedJob j image) where
   abbrev r : Row
   r = rowOf (j .part)
 
@@ -78,7 +80,7 @@ module _ (j : Job) (image : List ℕ) (R : Right j image) where
       ∙ (ap (play (j .part) (chipOf w)) (cycles-are command few) ∙ (rw t at (talk-plays (j .part) (j .wp) n first (chipOf w))))
     where
       cycles-are : (command : ℕ) → command ≤ 1 → cyclesIn (operated j command a x)
-          ≡ writeCycles (j .wp) (writesOf r command a x) ++ (replicate (pollsOf r command (j .p)) (cycle (j .p) (j .wp) (Read (addressOf command a))) ++ (cycle 0 (j .wp) (Read (addressOf command a)) ∷ []))
+          ≡ writeCycles (j .wp) (writesOf r command a x) ++ (replicate (pollsOf r command (j .p)) (cycle (j .p) (j .wp) (Read (addressOf command a))) ++ (cycle confirmAfter (j .wp) (Read (addressOf command a)) ∷ []))
       cycles-are zero le = rw (← R .row) (operated-cycles j 0 a x le)
       cycles-are (suc zero) le = rw (← R .row) (operated-cycles j 1 a x le)
       cycles-are (suc (suc c)) le = absurd (omega arith)
@@ -88,11 +90,10 @@ module _ (j : Job) (image : List ℕ) (R : Right j image) where
   after-all w L = playOf (j .part) w L
 
   -- ---- one cell
-  -- from w on, the cycles L put the value x at address a, start the operations os, and leave the chip at rest
-  record Put (w : World) (a x : ℕ) (L : List Sent) (os : List Operation) : Type 0 where
+  -- from w on, the cycles L change no cell but that at address a, start the operations os, and leave the chip at rest
+  record Put (w : World) (a : ℕ) (L : List Sent) (os : List Operation) : Type 0 where
     ready : Ready j image R (after-all w L)
     others : (i : ℕ) → (i ≡ a → ⊥) → at (after-all w L) i ≡ at w i
-    here : value (at (after-all w L) a) ≡ x
     starts : Starts (j .part) w L os
 
   -- what may be asked for at address a: a program of x, and a sector erase
@@ -103,7 +104,7 @@ module _ (j : Job) (image : List ℕ) (R : Right j image) where
     heeds-program : ignored r (j .wp) 0 a ≡ false
     heeds-erase : ignored r (j .wp) 1 a ≡ false
 
-  programs-cell : (a x : ℕ) (w : World) → May a x → Ready j image R w → bitAnd (value (at w a)) x ≡ x → Put w a x (operated j 0 a x) (programming j a x)
+  programs-cell : (a x : ℕ) (w : World) → May a x → Ready j image R w → bitAnd (value (at w a)) x ≡ x → Put w a (operated j 0 a x) (programming j a x)
   programs-cell a x w m g clears =
       let shown = program-shows (j .part) 0 a x (j .p) (j .wp) (w .cells) (w .held .device) (m .program) (g .whole) (rw (g .rest) fresh-idle) (m .heeds-program) refl in
       let c = operation-leaves 0 a x (omega arith) (m .program) (m .heeds-program) w g (shown ∙ clears) in
@@ -112,38 +113,36 @@ module _ (j : Job) (image : List ℕ) (R : Right j image) where
       record {
         ready = record { rest = ap (λ (h : Chip). h .device) c; whole = ap length e ∙ (length-set (w .cells) a (bitAnd (at w a) x) ∙ g .whole) };
         others = λ i n. ap (λ (l : List ℕ). getD l i 0) e ∙ getD-set-other (w .cells) a i (bitAnd (at w a) x) 0 n;
-        here = ap (λ (l : List ℕ). value (getD l a 0)) done ∙ (shown ∙ clears);
-        starts = starts-operated j 0 a x (omega arith) (R .row) w (m .program) (g .whole) (rw (g .rest) fresh-idle) (m .heeds-program);
+        starts = starts-operated j 0 a x (omega arith) (R .row) w (m .program) (g .whole) (rw (g .rest) fresh-idle) (m .heeds-program) c;
       }
 
   -- ---- a stretch of cells
-  -- from w on, the cycles L put the values v from address a on, start the operations os, and leave the chip at rest
-  pub record Holds (w : World) (a : ℕ) (v : List ℕ) (L : List Sent) (os : List Operation) : Type 0 where
+  -- from w on, the cycles L change no cell from address a + n on, start the operations os, and leave the chip at rest
+  pub record Stretch (w : World) (a n : ℕ) (L : List Sent) (os : List Operation) : Type 0 where
     pub ready : Ready j image R (after-all w L)
-    pub below : (i : ℕ) → i < a → at (after-all w L) i ≡ at w i
-    pub above : (i : ℕ) → a + length v ≤ i → at (after-all w L) i ≡ at w i
-    pub holds : (i : ℕ) → i < length v → value (at (after-all w L) (a + i)) ≡ getD v i 0
+    pub above : (i : ℕ) → a + n ≤ i → at (after-all w L) i ≡ at w i
     pub starts : Starts (j .part) w L os
 
-  holds-none : (w : World) (a : ℕ) → Ready j image R w → Holds w a [] [] []
-  holds-none w a g =
-      record { ready = g; below = λ i h. refl; above = λ i h. refl; holds = λ i h. absurd (not-suc-le-zero h); starts = starts-none (j .part) w }
+  stretch-none : (w : World) (a n : ℕ) → Ready j image R w → Stretch w a n [] []
+  stretch-none w a n g = record { ready = g; above = λ i h. refl; starts = starts-none (j .part) w }
 
-  holds-more : (w : World) (a x : ℕ) (v : List ℕ) (L M : List Sent) (os ps : List Operation)
-      → Put w a x L os → Holds (after-all w L) (a + 1) v M ps → Holds w a (x ∷ v) (L ++ M) (os ++ ps)
-  holds-more w a x v L M os ps p h =
+  -- two in a row
+  stretch-both : (w : World) (a n b m : ℕ) (L M : List Sent) (os ps : List Operation) → a + n ≤ b → Stretch w a n L os → Stretch (after-all w L) b m M ps
+      → (c k : ℕ) → b + m ≤ c + k → Stretch w c k (L ++ M) (os ++ ps)
+  stretch-both w a n b m L M os ps le h k c l room =
       let e = play-append (j .part) w L M in
       record {
-        ready = rw e (h .ready);
-        below = λ i l. rw e (h .below i (omega arith) ∙ p .others i (λ q. omega arith));
-        above = λ i l. rw e (h .above i (omega arith) ∙ p .others i (λ q. omega arith));
-        holds = λ i l. rw e (by i l);
-        starts = starts-append (j .part) w L M os ps (p .starts) (h .starts);
+        ready = rw e (k .ready);
+        above = λ i q. rw e (k .above i (omega arith) ∙ h .above i (omega arith));
+        starts = starts-append (j .part) w L M os ps (h .starts) (k .starts);
       }
-    where
-      by : (i : ℕ) → i < suc (length v) → value (at (after-all (after-all w L) M) (a + i)) ≡ getD (x ∷ v) i 0
-      by zero l = let z : a + 0 ≡ a = omega arith in rw z (ap value (h .below a (omega arith)) ∙ p .here)
-      by (suc i) l = let z : a + suc i ≡ a + 1 + i = omega arith in rw z (h .holds i (omega arith))
+
+  stretch-put : (w : World) (a : ℕ) (L : List Sent) (os : List Operation) → Put w a L os → Stretch w a 1 L os
+  stretch-put w a L os p = record { ready = p .ready; above = λ i q. p .others i (λ e. omega arith); starts = p .starts }
+
+  stretch-more : (w : World) (a x : ℕ) (v : List ℕ) (L M : List Sent) (os ps : List Operation)
+      → Put w a L os → Stretch (after-all w L) (a + 1) (length v) M ps → Stretch w a (length (x ∷ v)) (L ++ M) (os ++ ps)
+  stretch-more w a x v L M os ps p h = stretch-both w a 1 (a + 1) (length v) L M os ps (le-refl (a + 1)) (stretch-put w a L os p) h a (suc (length v)) (omega arith)
 
   -- what may be asked for along v
   abbrev Along : ℕ → List ℕ → Type 0
@@ -163,7 +162,7 @@ module _ (j : Job) (image : List ℕ) (R : Right j image) where
   each-here P w a x v e = let z : a + 0 ≡ a = omega arith in rw z at (e 0 (omega arith))
 
   each-more : (P : ℕ → ℕ → Type 0) (w : World) (a x : ℕ) (v : List ℕ) (L : List Sent) (os : List Operation)
-      → Put w a x L os → Each P w a (x ∷ v) → Each P (after-all w L) (a + 1) v
+      → Put w a L os → Each P w a (x ∷ v) → Each P (after-all w L) (a + 1) v
   each-more P w a x v L os p e = λ i h.
       let z : a + suc i ≡ a + 1 + i = omega arith in
       let o = p .others (a + 1 + i) (λ q. omega arith) in
@@ -173,23 +172,21 @@ module _ (j : Job) (image : List ℕ) (R : Right j image) where
   abbrev Blank : ℕ → ℕ → Type 0
   Blank o x = (value o ≡ blankOf (r .width)) × (bitAnd (blankOf (r .width)) x ≡ x)
 
-  filled : (a : ℕ) (v : List ℕ) (w : World) → Ready j image R w → Along a v → Each Blank w a v → Holds w a v (fills j a v) (filling j a v)
+  filled : (a : ℕ) (v : List ℕ) (w : World) → Ready j image R w → Along a v → Each Blank w a v → Stretch w a (length v) (fills j a v) (filling j a v)
   unfolding fills filling
-  filled a [] w g m b = holds-none w a g
+  filled a [] w g m b = stretch-none w a 0 g
   filled a (x ∷ v) w g m b =
       by (eqb x (blankOf (j .row .width))) refl
-      (λ L os p. holds-more w a x v L (fills j (a + 1) v) os (filling j (a + 1) v) p
+      (λ L os p. stretch-more w a x v L (fills j (a + 1) v) os (filling j (a + 1) v) p
       (filled (a + 1) v (after-all w L) (p .ready) (along-more a x v m) (each-more Blank w a x v L os p b)))
     where
       f : (value (at w a) ≡ blankOf (r .width)) × (bitAnd (blankOf (r .width)) x ≡ x)
       f = each-here Blank w a x v b
 
       by : (t : Bool) → eqb x (blankOf (j .row .width)) ≡ t
-          → ((L : List Sent) (os : List Operation) → Put w a x L os → Holds w a (x ∷ v) (L ++ fills j (a + 1) v) (os ++ filling j (a + 1) v))
-          → Holds w a (x ∷ v) (pick t [] (operated j 0 a x) ++ fills j (a + 1) v) (pick t [] (programming j a x) ++ filling j (a + 1) v)
-      by true t more =
-          more [] []
-          (record { ready = g; others = λ i n. refl; here = f .0 ∙ sym (rw (R .row) at (eqb-true x (blankOf (j .row .width)) t)); starts = starts-none (j .part) w })
+          → ((L : List Sent) (os : List Operation) → Put w a L os → Stretch w a (suc (length v)) (L ++ fills j (a + 1) v) (os ++ filling j (a + 1) v))
+          → Stretch w a (suc (length v)) (pick t [] (operated j 0 a x) ++ fills j (a + 1) v) (pick t [] (programming j a x) ++ filling j (a + 1) v)
+      by true t more = more [] [] (record { ready = g; others = λ i n. refl; starts = starts-none (j .part) w })
       by false t more = more (operated j 0 a x) (programming j a x) (programs-cell a x w (along-here a x v m) g (rw (f .0) (f .1)))
 
   -- ---- an unerased sector: every cell is read again, and programmed where it differs
@@ -197,24 +194,22 @@ module _ (j : Job) (image : List ℕ) (R : Right j image) where
   Clear o x = bitAnd (value o) x ≡ x
 
   -- a read changes nothing
-  read-put : (a x : ℕ) (w : World) → a < r .cells → Ready j image R w → value (at w a) ≡ x → Put w a x (scanRead j a ∷ []) []
-  read-put a x w t g e =
+  read-put : (a : ℕ) (w : World) → a < r .cells → Ready j image R w → Put w a (scanRead j a ∷ []) []
+  read-put a w t g =
       let o = reads-on j image R w a g t in
       record {
         ready = o .ready;
         others = λ i n. ap (λ (l : List ℕ). getD l i 0) (o .cells);
-        here = ap (λ (l : List ℕ). value (getD l a 0)) (o .cells) ∙ e;
         starts = starts-read (j .part) w j a;
       }
 
   -- nor does one in front
-  put-after : (a x : ℕ) (w : World) (L : List Sent) (os : List Operation) → Read-on j image R w a (after-all w (scanRead j a ∷ []))
-      → Put (after-all w (scanRead j a ∷ [])) a x L os → Put w a x (scanRead j a ∷ L) os
-  put-after a x w L os o p =
+  put-after : (a : ℕ) (w : World) (L : List Sent) (os : List Operation) → Read-on j image R w a (after-all w (scanRead j a ∷ []))
+      → Put (after-all w (scanRead j a ∷ [])) a L os → Put w a (scanRead j a ∷ L) os
+  put-after a w L os o p =
       record {
         ready = p .ready;
         others = λ i n. p .others i n ∙ ap (λ (l : List ℕ). getD l i 0) (o .cells);
-        here = p .here;
         starts = starts-append (j .part) w (scanRead j a ∷ []) L [] os (starts-read (j .part) w j a) (p .starts);
       }
 
@@ -222,14 +217,14 @@ module _ (j : Job) (image : List ℕ) (R : Right j image) where
   SameAs l w a n = (i : ℕ) → i < n → getD l i 0 ≡ at w (a + i)
 
   looked : (a : ℕ) (l v : List ℕ) (w : World) → length l ≡ length v → SameAs l w a (length l) → Ready j image R w → Along a v → Each Clear w a v
-      → Holds w a v (looks j a l v) (looking j a l v)
+      → Stretch w a (length v) (looks j a l v) (looking j a l v)
   unfolding looks looking
-  looked a [] [] w n s g m b = holds-none w a g
+  looked a [] [] w n s g m b = stretch-none w a 0 g
   looked a [] (x ∷ v) w n s g m b = absurd (omega arith)
   looked a (o ∷ l) [] w n s g m b = absurd (omega arith)
   looked a (o ∷ l) (x ∷ v) w n s g m b =
       by (eqb (valueOf (j .row .width) o) x) refl
-      (λ L os p. holds-more w a x v L (looks j (a + 1) l v) os (looking j (a + 1) l v) p
+      (λ L os p. stretch-more w a x v L (looks j (a + 1) l v) os (looking j (a + 1) l v) p
       (looked (a + 1) l v (after-all w L) (omega arith) (same-more L os p) (p .ready) (along-more a x v m) (each-more Clear w a x v L os p b)))
     where
       room : a < r .cells
@@ -238,23 +233,19 @@ module _ (j : Job) (image : List ℕ) (R : Right j image) where
       onward : Read-on j image R w a (after-all w (scanRead j a ∷ []))
       onward = reads-on j image R w a g room
 
-      same-more : (L : List Sent) (os : List Operation) → Put w a x L os → SameAs l (after-all w L) (a + 1) (length l)
+      same-more : (L : List Sent) (os : List Operation) → Put w a L os → SameAs l (after-all w L) (a + 1) (length l)
       same-more L os p = λ i h.
           let z : a + suc i ≡ a + 1 + i = omega arith in
           (rw z at (s (suc i) (omega arith))) ∙ sym (p .others (a + 1 + i) (λ q. omega arith))
 
-      here : o ≡ at w a
-      here = let z : a + 0 ≡ a = omega arith in rw z at (s 0 (omega arith))
-
       by : (t : Bool) → eqb (valueOf (j .row .width) o) x ≡ t
-          → ((L : List Sent) (os : List Operation) → Put w a x L os → Holds w a (x ∷ v) (L ++ looks j (a + 1) l v) (os ++ looking j (a + 1) l v))
-          → Holds w a (x ∷ v) (scanRead j a ∷ (pick t [] (operated j 0 a x) ++ looks j (a + 1) l v)) (pick t [] (programming j a x) ++ looking j (a + 1) l v)
-      by true t more =
-          more (scanRead j a ∷ []) [] (read-put a x w room g (ap value (sym here) ∙ rw (R .row) at (eqb-true (valueOf (j .row .width) o) x t)))
+          → ((L : List Sent) (os : List Operation) → Put w a L os → Stretch w a (suc (length v)) (L ++ looks j (a + 1) l v) (os ++ looking j (a + 1) l v))
+          → Stretch w a (suc (length v)) (scanRead j a ∷ (pick t [] (operated j 0 a x) ++ looks j (a + 1) l v)) (pick t [] (programming j a x) ++ looking j (a + 1) l v)
+      by true t more = more (scanRead j a ∷ []) [] (read-put a w room g)
       by false t more =
           let c : bitAnd (value (at (after-all w (scanRead j a ∷ [])) a)) x ≡ x = rw (onward .cells) (each-here Clear w a x v b) in
           more (scanRead j a ∷ operated j 0 a x) (programming j a x)
-          (put-after a x w (operated j 0 a x) (programming j a x) onward (programs-cell a x (after-all w (scanRead j a ∷ [])) (along-here a x v m) (onward .ready) c))
+          (put-after a w (operated j 0 a x) (programming j a x) onward (programs-cell a x (after-all w (scanRead j a ∷ [])) (along-here a x v m) (onward .ready) c))
 
   -- ---- the scan changes nothing
   record Scanned (w : World) (L : List Sent) : Type 0 where
@@ -277,7 +268,6 @@ module _ (j : Job) (image : List ℕ) (R : Right j image) where
   -- ---- the erase of a sector
   record Erased (w : World) (a : ℕ) (L : List Sent) (os : List Operation) : Type 0 where
     ready : Ready j image R (after-all w L)
-    below : (i : ℕ) → i < a → at (after-all w L) i ≡ at w i
     above : (i : ℕ) → a + j .size ≤ i → at (after-all w L) i ≡ at w i
     blank : (i : ℕ) → i < j .size → value (at (after-all w L) (a + i)) ≡ blankOf (r .width)
     starts : Starts (j .part) w L os
@@ -291,11 +281,9 @@ module _ (j : Job) (image : List ℕ) (R : Right j image) where
       let s : a + sectorSize (r .width) ≤ length (w .cells) = omega (arith, R .size, g .whole) in
       record {
         ready = record { rest = ap (λ (h : Chip). h .device) c; whole = ap length e ∙ (erase-length r a z (w .cells) s ∙ g .whole) };
-        below = λ i h. ap (λ (l : List ℕ). getD l i 0) (e ∙ erase-leaves r a z (w .cells))
-            ∙ (List·getD-append (take a (w .cells)) _ 0 i (rw (length-take-le a (w .cells) (omega arith)) h) ∙ getD-take a (w .cells) i 0 h);
         above = λ i h. ap (λ (l : List ℕ). getD l i 0) e ∙ beyond (completed r 1 a 0 (w .cells)) (w .cells) (a + sectorSize (r .width)) i (omega (arith, R .size)) (erase-drop r a z (w .cells) s);
         blank = λ i h. ap (λ (l : List ℕ). value (getD l (a + i) 0)) e ∙ (ap value (erase-at r a z (w .cells) s i (omega (arith, R .size))) ∙ value-blank (r .width));
-        starts = starts-operated j 1 a 0 (omega arith) (R .row) w (m .erase) (g .whole) (rw (g .rest) fresh-idle) (m .heeds-erase);
+        starts = starts-operated j 1 a 0 (omega arith) (R .row) w (m .erase) (g .whole) (rw (g .rest) fresh-idle) (m .heeds-erase) c;
       }
     where
       beyond : (l k : List ℕ) (n i : ℕ) → n ≤ i → drop n l ≡ drop n k → getD l i 0 ≡ getD k i 0
@@ -306,83 +294,44 @@ module _ (j : Job) (image : List ℕ) (R : Right j image) where
   -- ---- one sector, that holds l and is to hold v
   module _ (a : ℕ) (l v : List ℕ) (aligned : a % j .size ≡ 0) (ln : length l ≡ j .size) (lv : length v ≡ j .size) (some : 0 < j .size)
       (fit : (i : ℕ) → i < length v → fitsIn (r .width) (getD v i 0) ≡ true) (m : Along a v) (room : a + j .size ≤ r .cells) where
-    clear-cells : (w : World) → SameAs l w a (j .size) → rises (r .width) (map value l) v ≡ false → Each Clear w a v
+    clear-cells : (w : World) → SameAs l w a (j .size) → decisionOf (r .width) (map value l) v ≡ NoErase → Each Clear w a v
     clear-cells w s e = λ i h. rw (s i (omega arith)) at (cleared (r .width) l v i e (omega arith) h (fit i h))
 
     -- what is done after the scan
-    abbrev rest : Bool → List Sent
-    rest t = pick t (operated j 1 a 0 ++ fills j a v) (looks j a l v)
-
-    abbrev begins : Bool → List Operation
-    begins t = pick t (operationOf r 1 a 0 ∷ filling j a v) (looking j a l v)
-
-    decided : (t : Bool) (w : World) → rises (r .width) (map value l) v ≡ t → SameAs l w a (j .size) → Ready j image R w → Holds w a v (rest t) (begins t)
-    decided true w e s g =
+    decided : (t : Decision) (w : World) → decisionOf (r .width) (map value l) v ≡ t → SameAs l w a (j .size) → Ready j image R w → Stretch w a (length v) (carries j a l v t) (carrying j a l v t)
+    decided NoErase w e s g = looked a l v w (ln ∙ sym lv) (λ i h. s i (omega arith)) g m (clear-cells w s e)
+    decided SectorErase w e s g =
         let L = operated j 1 a 0 in
         let o = operationOf r 1 a 0 ∷ [] in
         let q = erased a (getD v 0 0) w (let z : a + 0 ≡ a = omega arith in rw z at (m 0 (omega arith))) aligned room g in
         let h = filled a v (after-all w L) (q .ready) m (λ i n. (q .blank i (omega arith), blank-and (r .width) (getD v i 0) (fit i n))) in
         let e = play-append (j .part) w L (fills j a v) in
-        record {
-          ready = rw e (h .ready);
-          below = λ i n. rw e (h .below i n ∙ q .below i n);
-          above = λ i n. rw e (h .above i n ∙ q .above i (omega arith));
-          holds = λ i n. rw e (h .holds i n);
-          starts = starts-append (j .part) w L (fills j a v) o (filling j a v) (q .starts) (h .starts);
-        }
-    decided false w e s g = looked a l v w (ln ∙ sym lv) (λ i h. s i (omega arith)) g m (clear-cells w s e)
+        record { ready = rw e (h .ready); above = λ i n. rw e (h .above i n ∙ q .above i (omega arith)); starts = starts-append (j .part) w L (fills j a v) o (filling j a v) (q .starts) (h .starts) }
 
-    sector-holds : (w : World) → SameAs l w a (j .size) → Ready j image R w → Holds w a v (sectorSent j a l v) (sectoring j a l v)
+    sector-starts : (w : World) → SameAs l w a (j .size) → Ready j image R w → Stretch w a (length v) (sectorSent j a l v) (sectoring j a l v)
     unfolding sectorSent sectoring
-    sector-holds w s g =
-        let t = rises (j .row .width) (map (valueOf (j .row .width)) l) v in
+    sector-starts w s g =
+        let t = decidedOn j l v in
         let L = scans j a (j .size) in
         let k = scanned (j .size) a w room g in
         let h = decided t (after-all w L) (rw (R .row)) (λ i n. s i n ∙ sym (ap (λ (l : List ℕ). getD l (a + i) 0) (k .cells))) (k .ready) in
-        let e = play-append (j .part) w L (rest t) in
+        let e = play-append (j .part) w L (carries j a l v t) in
         record {
           ready = rw e (h .ready);
-          below = λ i n. rw e (h .below i n ∙ ap (λ (l : List ℕ). getD l i 0) (k .cells));
           above = λ i n. rw e (h .above i n ∙ ap (λ (l : List ℕ). getD l i 0) (k .cells));
-          holds = λ i n. rw e (h .holds i n);
-          starts = starts-append (j .part) w L (rest t) [] (begins t) (k .starts) (h .starts);
+          starts = starts-append (j .part) w L (carries j a l v t) [] (carrying j a l v t) (k .starts) (h .starts);
         }
 
   -- ---- n sectors
-  -- two stretches in a row
-  holds-both : (w : World) (a n : ℕ) (v : List ℕ) (L M : List Sent) (os ps : List Operation) → n ≤ length v
-      → Holds w a (take n v) L os → Holds (after-all w L) (a + n) (drop n v) M ps → Holds w a v (L ++ M) (os ++ ps)
-  holds-both w a n v L M os ps le h k =
-      let lt : length (take n v) ≡ n = length-take-le n v le in
-      let ld : length (drop n v) ≡ length v - n = length-drop n v in
-      let e = play-append (j .part) w L M in
-      record {
-        ready = rw e (k .ready);
-        below = λ i b. rw e (k .below i (omega arith) ∙ h .below i b);
-        above = λ i b. rw e (k .above i (omega arith) ∙ h .above i (omega arith));
-        holds = λ i b. rw e (by i b (ltb i n) refl);
-        starts = starts-append (j .part) w L M os ps (h .starts) (k .starts);
-      }
-    where
-      by : (i : ℕ) → i < length v → (t : Bool) → ltb i n ≡ t → value (at (after-all (after-all w L) M) (a + i)) ≡ getD v i 0
-      by i b true t =
-          let u = ltb-true i n t in
-          ap value (k .below (a + i) (omega arith)) ∙ (h .holds i (rw (length-take-le n v le) u) ∙ getD-take n v i 0 u)
-      by i b false t =
-          let u = ltb-false i n t in
-          let z : a + n + (i - n) ≡ a + i = omega arith in
-          let y : n + (i - n) ≡ i = omega arith in
-          (rw z at (k .holds (i - n) (rw (length-drop n v) (omega arith)))) ∙ (rw y at (getD-drop n v (i - n) 0))
-
   abbrev Fit : List ℕ → Type 0
   Fit v = (i : ℕ) → i < length v → fitsIn (r .width) (getD v i 0) ≡ true
 
-  sectors-hold : (n a : ℕ) (l v : List ℕ) (w : World) → 0 < j .size → a % j .size ≡ 0 → n * j .size ≤ length l → length v ≡ n * j .size → a + length v ≤ r .cells
-      → Fit v → Along a v → SameAs l w a (n * j .size) → Ready j image R w → Holds w a v (sectorsSent j a n l v) (sectoringAll j a n l v)
+  sectors-start : (n a : ℕ) (l v : List ℕ) (w : World) → 0 < j .size → a % j .size ≡ 0 → n * j .size ≤ length l → length v ≡ n * j .size → a + length v ≤ r .cells
+      → Fit v → Along a v → SameAs l w a (n * j .size) → Ready j image R w → Stretch w a (length v) (sectorsSent j a n l v) (sectoringAll j a n l v)
   unfolding sectorsSent sectoringAll
-  sectors-hold zero a l [] w some z ln lv room f m s g = holds-none w a g
-  sectors-hold zero a l (x ∷ v) w some z ln lv room f m s g = absurd (omega (arith, zero-mul (j .size)))
-  sectors-hold (suc n) a l v w some z ln lv room f m s g =
+  sectors-start zero a l [] w some z ln lv room f m s g = stretch-none w a 0 g
+  sectors-start zero a l (x ∷ v) w some z ln lv room f m s g = absurd (omega (arith, zero-mul (j .size)))
+  sectors-start (suc n) a l v w some z ln lv room f m s g =
       let S = j .size in
       let q = suc-mul n S in
       let le : S ≤ length v = omega arith in
@@ -391,23 +340,24 @@ module _ (j : Job) (image : List ℕ) (R : Right j image) where
       let lk : length (take S l) ≡ S = length-take-le S l (omega arith) in
       let le′ : length (drop S l) ≡ length l - S = length-drop S l in
       let L = sectorSent j a (take S l) (take S v) in
-      let first = sector-holds a (take S l) (take S v) z lk lt some
+      let first = sector-starts a (take S l) (take S v) z lk lt some
       (λ i h. rw (getD-take S v i 0 (omega arith)) (f i (omega arith)))
       (λ i h. rw (getD-take S v i 0 (omega arith)) (m i (omega arith))) (omega arith) w
       (λ i h. getD-take S l i 0 h ∙ s i (omega arith)) g in
-      let next = sectors-hold n (a + S) (drop S l) (drop S v) (after-all w L) some (add-mod-right a S ∙ z) (omega arith) (omega arith) (omega arith)
+      let next = sectors-start n (a + S) (drop S l) (drop S v) (after-all w L) some (add-mod-right a S ∙ z) (omega arith) (omega arith) (omega arith)
       (λ i h. rw (getD-drop S v i 0) (f (S + i) (omega arith)))
       (λ i h. let y : a + S + i ≡ a + (S + i) = omega arith in rw (y, getD-drop S v i 0) (m (S + i) (omega arith)))
       (λ i h. let y : a + S + i ≡ a + (S + i) = omega arith in getD-drop S l i 0 ∙ (s (S + i) (omega arith) ∙ rw y (sym (first .above (a + (S + i)) (omega arith)))))
       (first .ready) in
-      holds-both w a S v L (sectorsSent j (a + S) n (drop S l) (drop S v)) (sectoring j a (take S l) (take S v)) (sectoringAll j (a + S) n (drop S l) (drop S v)) le first next
+      stretch-both w a (length (take S v)) (a + S) (length (drop S v)) L (sectorsSent j (a + S) n (drop S l) (drop S v)) (sectoring j a (take S l) (take S v)) (sectoringAll j (a + S) n (drop S l) (drop S v))
+      (omega arith) first next a (length v) (omega arith)
 
-  -- ---- the job: after its cycles the range holds the image, no other cell has changed, and the chip is at rest
-  pub image-held : (cells : List ℕ) → length cells ≡ r .cells → 0 < j .size → Holds (world cells noneSent) (j .first) image (sentOf j image cells) (operationsOf j image cells)
-  image-held cells whole some =
+  -- ---- the job: its cycles start its operations, and leave the chip at rest
+  pub job-started : (cells : List ℕ) → length cells ≡ r .cells → 0 < j .size → Stretch (world cells noneSent) (j .first) (length image) (sentOf j image cells) (operationsOf j image cells)
+  job-started cells whole some =
       let e : j .count / j .size * j .size ≡ j .count = omega (arith, div-add-mod' (j .count) (j .size), R .whole) in
       let c = R .count in
-      sectors-hold (j .count / j .size) (j .first) (drop (j .first) cells) image (world cells noneSent) some (R .aligned)
+      sectors-start (j .count / j .size) (j .first) (drop (j .first) cells) image (world cells noneSent) some (R .aligned)
       (rw (length-drop (j .first) cells) (omega (arith, R .range))) (omega arith) (omega (arith, R .range))
       (λ i h. fit-at (r .width) image (R .fits) i h) may (λ i h. getD-drop (j .first) cells i 0) (record { rest = refl; whole = whole })
     where

@@ -2,6 +2,7 @@
 use Prim.Native.Nat.{ℕ, zero, suc, _+_, _*_, _/_, _^_, _≤_, _<_}
 use mathlib.Core.Path.{_≡_, refl, sym, ap, ap₂, _∙_}
 use mathlib.Core.Bool.{Bool, true, false, not}
+use mathlib.Core.Logic.{_⊎_}
 use mathlib.Core.List.{List, [], _∷_, _++_, map, map-append}
 use native.Mathlib.Nat.{div-add-mod', mul-div-cancel}
 use native.Mathlib.Numerals.{add-one}
@@ -25,29 +26,29 @@ use Rattle.chip.specs.declared.device.Operation.{Operation}
 use Rattle.chip.specs.declared.cycle.Cycle.{Cycle}
 use Rattle.chip.specs.Device.{freshDevice, idle}
 use Rattle.chip.specs.Operation.{cellsOf, finished, completeOn}
-use Rattle.chip.specs.Cycle.{chip}
+use Rattle.chip.specs.Cycle.{Chip, chip}
 use Rattle.chip.specs.Trace.{play, startedIn, uncut, completeAll}
 use Rattle.chip.proofs.Leaves.{stored}
+use Rattle.chip.proofs.Idle.{fresh-idle}
 use Rattle.chip.proofs.Trace.{trace}
 use Rattle.chip.proofs.Started.{Startable, All, started-all}
 use Rattle.driver.specs.Writes.{lastWrite}
-use Rattle.driver.specs.Talk.{operationOf}
 use Rattle.job.specs.declared.loader.Job.{Job}
 use Rattle.job.specs.Refusal.{fitAll}
-use Rattle.job.specs.Run.{world, noneSent}
+use Rattle.job.specs.Run.{world, noneSent, playOf}
 use Rattle.job.specs.Sent.{sentOf}
 use Rattle.job.specs.Formulas.{tallyOf}
-use Rattle.job.proofs.Right.{Right, fit-at}
-use Rattle.least.specs.Operations.{Op, Program, Erase, programmed, blanks, erased, perform, performAll, Holds, costAll}
+use Rattle.job.proofs.AcceptedJob.{AcceptedJob, fit-at}
+use Rattle.least.specs.Operations.{Op, Program, Erase, programmed, blanks, erased, operate, operateAll, Holds, costAll}
 use Rattle.least.specs.LeastTime.{differs, rising}
-use Rattle.least.specs.Job.{programs, sectorOps, sectorsOps, jobOps}
-use Rattle.least.proofs.Bound.{performAll-length}
-use Rattle.least.proofs.Theorem.{job-best}
+use Rattle.least.specs.Job.{programs, sectorOps, sectorsOps, jobOps, afterJob}
+use Rattle.least.proofs.Bound.{operateAll-length}
+use Rattle.least.proofs.Theorem.{job-best, job-holds, job-elsewhere}
 use Rattle.invoice.specs.Started.{cyclesIn, many, tableTime}
-use Rattle.invoice.proofs.Listed.{programming, filling, looking, sectoring, sectoringAll, operationsOf}
-use Rattle.invoice.proofs.Starts.{Starts}
-use Rattle.invoice.proofs.Bits.{rises-is}
-use Rattle.invoice.proofs.Image.{image-held}
+use Rattle.invoice.proofs.Listed.{programming, filling, looking, carrying, sectoring, sectoringAll, operationsOf}
+use Rattle.invoice.proofs.Starts.{Starts, world-plays}
+use Rattle.invoice.proofs.Bits.{erasesIf, decision-is}
+use Rattle.invoice.proofs.Image.{job-started}
 
 -- ---- the chip's programs and sector erases are operations of the least time
 -- S is the sector's size
@@ -85,9 +86,9 @@ module _ (r : Row) where
   op-erase o e = rw e
 
   one-is : (o : Operation) (cells : List ℕ) → Startable r o → (k : ℕ) → o .kind ≡ k → k ≤ 1 → length cells ≡ r .cells
-      → completeOn r o cells ≡ perform w S (opOf S o) cells
-  one-is o cells s zero e le whole = program-is o cells s e whole ∙ ap (λ (p : Op). perform w S p cells) (sym (op-program o e))
-  one-is o cells s (suc zero) e le whole = erase-is o cells e ∙ ap (λ (p : Op). perform w S p cells) (sym (op-erase o e))
+      → completeOn r o cells ≡ operate w S (opOf S o) cells
+  one-is o cells s zero e le whole = program-is o cells s e whole ∙ ap (λ (p : Op). operate w S p cells) (sym (op-program o e))
+  one-is o cells s (suc zero) e le whole = erase-is o cells e ∙ ap (λ (p : Op). operate w S p cells) (sym (op-erase o e))
   one-is o cells s (suc (suc k)) e le whole = absurd (omega arith)
 
   cost-is : (o : Operation) (k : ℕ) → o .kind ≡ k → k ≤ 1 → costAll (timeOf r 0) (timeOf r 1) (opOf S o ∷ []) ≡ timeOf r (o .kind) + 0
@@ -105,16 +106,16 @@ module _ (r : Row) where
       other : (k : ℕ) → _≡_ {A = ℕ} (pick (eqb (o .kind) k) 1 0) 0 → o .kind ≡ k → ⊥
       other k z e = absurd (omega (arith, rw (eq-eqb (o .kind) k e) at z))
 
-  -- performed in order, and their times
+  -- one after the other, and their times
   all-is : (os : List Operation) → All (Startable r) os → many 2 os ≡ 0 → many 3 os ≡ 0 → (cells : List ℕ) → length cells ≡ r .cells
-      → (completeAll r os cells ≡ performAll w S (map (opOf S) os) cells) × (costAll (timeOf r 0) (timeOf r 1) (map (opOf S) os) ≡ tableTime r os)
+      → (completeAll r os cells ≡ operateAll w S (map (opOf S) os) cells) × (costAll (timeOf r 0) (timeOf r 1) (map (opOf S) os) ≡ tableTime r os)
   all-is [] a b c cells whole = (refl, refl)
   all-is (o ∷ os) a b c cells whole =
       let k = few-kinds o os (a .0) b c in
       let e = one-is o cells (a .0) (o .kind) refl k whole in
-      let l : length (completeOn r o cells) ≡ r .cells = ap length e ∙ (performAll-length w S (opOf S o ∷ []) cells ∙ whole) in
+      let l : length (completeOn r o cells) ≡ r .cells = ap length e ∙ (operateAll-length w S (opOf S o ∷ []) cells ∙ whole) in
       let i = all-is os (a .1) (omega arith) (omega arith) (completeOn r o cells) l in
-      (i .0 ∙ ap (performAll w S (map (opOf S) os)) e, omega (arith, cost-is o (o .kind) refl k, i .1))
+      (i .0 ∙ ap (operateAll w S (map (opOf S) os)) e, omega (arith, cost-is o (o .kind) refl k, i .1))
 
 -- how many of each kind make up the table times
 times-are : (r : Row) (os : List Operation) → All (Startable r) os → many 2 os ≡ 0 → many 3 os ≡ 0 → tableTime r os ≡ many 1 os * timeOf r 1 + many 0 os * timeOf r 0
@@ -190,9 +191,9 @@ module _ (j : Job) where
   module _ (some : 0 < j .size) where
     sector-is : (s : ℕ) (l v : List ℕ) → fitAll W v ≡ true → map (opOf Z) (sectoring j (s * Z) l v) ≡ sectorOps W Z s l v
     unfolding sectoring sectorOps lastWrite
-    sector-is s l v f = rw (rises-is W l v f) (by (ltb 0 (rising W l v)))
+    sector-is s l v f = rw (decision-is W l v f) (by (ltb 0 (rising W l v)))
       where
-        by : (b : Bool) → map (opOf Z) (pick b (operationOf (rowOf (j .part)) 1 (s * Z) 0 ∷ filling j (s * Z) v) (looking j (s * Z) l v))
+        by : (b : Bool) → map (opOf Z) (carrying j (s * Z) l v (erasesIf b))
             ≡ pick b (Erase s ∷ programs W (s * Z) (blanks W v) v) (programs W (s * Z) l v)
         by true = ap₂ {A = ℕ} {B = List Op} {C = List Op} (λ n ops. Erase n ∷ ops) (mul-div-cancel s some) (fills-are (s * Z) v f)
         by false = looks-are (s * Z) l v f
@@ -207,7 +208,7 @@ module _ (j : Job) where
         (ap (λ (a : ℕ). map (opOf Z) (sectoringAll j a n (drop Z l) (drop Z v))) e ∙ sectors-are n (suc s) (drop Z l) (drop Z v) (fit-drop W Z v f))
 
 -- ---- the theorem
-module _ (j : Job) (image : List ℕ) (R : Right j image) (cells : List ℕ) (full : length cells ≡ rowOf (j .part) .cells) where
+module _ (j : Job) (image : List ℕ) (R : AcceptedJob j image) (cells : List ℕ) (full : length cells ≡ rowOf (j .part) .cells) where
   abbrev r : Row
   r = rowOf (j .part)
 
@@ -232,10 +233,40 @@ module _ (j : Job) (image : List ℕ) (R : Right j image) (cells : List ℕ) (fu
 
   -- the job's operations, as the one list of cycles starts them
   pub held : Starts (j .part) (world cells noneSent) (sentOf j image cells) (operationsOf j image cells)
-  held = image-held j image R cells full (rw (R .size) (sector-some (r .width))) .starts
+  held = job-started j image R cells full (rw (R .size) (sector-some (r .width))) .starts
 
   startable : All (Startable r) (operationsOf j image cells)
   startable = rw (held .begun) at (started-all (j .part) (cyclesIn (sentOf j image cells)) (chip cells freshDevice))
+
+  -- the cells that they leave are least's
+  pub cells-left : playOf (j .part) (world cells noneSent) (sentOf j image cells) .cells ≡ completeAll r (operationsOf j image cells) cells
+  cells-left =
+      let h = job-started j image R cells full (rw (R .size) (sector-some (r .width))) in
+      let e = world-plays (j .part) (world cells noneSent) (sentOf j image cells) in
+      let rest : idle (play (j .part) (chip cells freshDevice) (cyclesIn (sentOf j image cells)) .device) ≡ true = rw (← e, h .ready .rest) fresh-idle in
+      ap (λ (h : Chip). h .cells) e ∙ (trace (j .part) (cyclesIn (sentOf j image cells)) (chip cells freshDevice) (held .whole) fresh-idle rest
+      ∙ ap (λ (os : List Operation). completeAll r os cells) (held .begun))
+
+  room : (j .first / size + j .count / size) * size ≤ length cells
+  room = omega (arith, sectors-first, sectors-count, R .range, R .count)
+
+  whole : length image ≡ j .count / size * size
+  whole = sym sectors-count
+
+  after-is : completeAll r (operationsOf j image cells) cells ≡ afterJob (r .width) size (j .first / size) (j .count / size) cells image
+  after-is = all-is r (operationsOf j image cells) startable (held .blocks) (held .chips) cells full .0 ∙ ap (λ (ops : List Op). operateAll (r .width) size ops cells) listed
+
+  -- the range holds the image
+  pub image-left : (i : ℕ) → i < length image → valueOf (r .width) (getD (completeAll r (operationsOf j image cells) cells) (j .first + i) 0) ≡ getD image i 0
+  image-left i h =
+      (rw (← after-is, sectors-first) at (job-holds (r .width) size (j .first / size) (j .count / size) cells image room whole i (omega (arith, sectors-count))))
+      ∙ value-same (r .width) (getD image i 0) (fits-lt (r .width) (getD image i 0) (fit-at (r .width) image (R .fits) i h))
+
+  -- every other cell is the word that it was
+  pub others-left : (i : ℕ) → (i < j .first) ⊎ (j .first + length image ≤ i) → getD (completeAll r (operationsOf j image cells) cells) i 0 ≡ getD cells i 0
+  others-left i h =
+      let e : (j .first / size + j .count / size) * size ≡ j .first + length image = omega (arith, sectors-first, sectors-count) in
+      (rw (← after-is, sectors-first, e) at (job-elsewhere (r .width) size (j .first / size) (j .count / size) cells image room whole .1 i)) h
 
   -- the table times of the operations that the job starts are those of its erases and programs
   pub job-times : tableTime r (operationsOf j image cells) ≡ tallyOf (sentOf j image cells) .erases * timeOf r 1 + tallyOf (sentOf j image cells) .programs * timeOf r 0
@@ -254,8 +285,7 @@ module _ (j : Job) (image : List ℕ) (R : Right j image) (cells : List ℕ) (fu
       let t = all-is r os (started-all (j .part) cs (chip cells d)) blocks chips cells full in
       let k = all-is r (operationsOf j image cells) startable (held .blocks) (held .chips) cells full in
       let p = trace (j .part) cs (chip cells d) whole rests ends in
-      let room : (j .first / size + j .count / size) * size ≤ length cells = omega (arith, sectors-first, sectors-count, R .range, R .count) in
-      let best = job-best (r .width) size (timeOf r 0) (timeOf r 1) (j .first / size) (j .count / size) cells image (map (opOf size) os) room (there (play (j .part) (chip cells d) cs .cells) (performAll (r .width) size (map (opOf size) os) cells) (p ∙ t .0) holds) in
+      let best = job-best (r .width) size (timeOf r 0) (timeOf r 1) (j .first / size) (j .count / size) cells image (map (opOf size) os) room (there (play (j .part) (chip cells d) cs .cells) (operateAll (r .width) size (map (opOf size) os) cells) (p ∙ t .0) holds) in
       omega (arith, best, t .1, k .1, ap (costAll (timeOf r 0) (timeOf r 1)) listed)
     where
       there : (c k : List ℕ) → c ≡ k

@@ -1,5 +1,5 @@
 pub mod Listed
-pub mod Honest
+pub mod Placed
 pub mod Starts
 pub mod Bits
 pub mod Image

@@ -1,6 +1,6 @@
 -- The operations of a job as one list, from the job and the cells alone, beside the one list of cycles.
 use Prim.Native.Nat.{ℕ, zero, suc, _+_, _/_}
-use mathlib.Core.List.{List, [], _∷_, _++_, map}
+use mathlib.Core.List.{List, [], _∷_, _++_}
 use lib.Dec.{eqb}
 use lib.ListN.{take, drop}
 use Rattle.parts.specs.Pick.{pick}
@@ -9,7 +9,9 @@ use Rattle.parts.specs.Table.{rowOf}
 use Rattle.chip.specs.declared.device.Operation.{Operation}
 use Rattle.driver.specs.Talk.{operationOf}
 use Rattle.job.specs.declared.loader.Job.{Job}
-use Rattle.job.specs.Search.{rises}
+use Rattle.job.specs.declared.search.Decision.{Decision}
+use Rattle.job.specs.declared.search.Decision.the-variants.{NoErase, SectorErase}
+use Rattle.job.specs.Sent.{decidedOn}
 
 module _ (j : Job) where
   -- the program of x at address a
@@ -27,12 +29,13 @@ module _ (j : Job) where
   looking a (o ∷ l) [] = []
   looking a (o ∷ l) (x ∷ v) = pick (eqb (valueOf (j .row .width) o) x) [] (programming a x) ++ looking (a + 1) l v
 
-  -- the sector from address a on, that holds l and is to hold v
+  -- of a sector from address a on, that holds l and is to hold v: what its decision asks for
+  abbrev pub carrying : ℕ → List ℕ → List ℕ → Decision → List Operation
+  carrying a l v NoErase = looking a l v
+  carrying a l v SectorErase = operationOf (rowOf (j .part)) 1 a 0 ∷ filling a v
+
   unfoldable pub sectoring : ℕ → List ℕ → List ℕ → List Operation
-  sectoring a l v =
-      pick (rises (j .row .width) (map (valueOf (j .row .width)) l) v)
-      (operationOf (rowOf (j .part)) 1 a 0 ∷ filling a v)
-      (looking a l v)
+  sectoring a l v = carrying a l v (decidedOn j l v)
 
   -- n sectors from address a on, ascending
   unfoldable pub sectoringAll : ℕ → ℕ → List ℕ → List ℕ → List Operation

@@ -2,43 +2,35 @@
 use Prim.Native.Nat.{ℕ, zero, suc, _+_, _-_, _*_, _/_}
 use mathlib.Core.Path.{_≡_, refl, ap, _∙_}
 use mathlib.Core.Bool.{Bool, true}
-use mathlib.Core.List.{List, [], _∷_, _++_}
+use mathlib.Core.List.{List, [], _++_}
 use native.Mathlib.Omega.{arith}
 use borrow.Author.Tests.{eq-eqb}
 use lib.Dec.{ltb}
 use lib.ListN.{length, take, drop}
-use Rattle.parts.specs.Pick.{pick}
 use Rattle.parts.specs.Table.{rowOf}
-use Rattle.parts.proofs.Ranges.{sector-some}
 use Rattle.chip.specs.declared.device.Operation.{Operation}
-use Rattle.chip.specs.Device.{freshDevice, idle}
-use Rattle.chip.specs.Cycle.{Chip, chip}
-use Rattle.chip.specs.Trace.{play, completeAll}
-use Rattle.chip.proofs.Trace.{trace}
-use Rattle.chip.proofs.Idle.{fresh-idle}
+use Rattle.chip.specs.Trace.{completeAll}
 use Rattle.job.specs.declared.loader.Job.{Job}
 use Rattle.job.specs.declared.run.Tally.{Tally}
 use Rattle.job.specs.Total.{sumOf}
 use Rattle.job.specs.Refusal.{fitAll, jobRefusal}
-use Rattle.job.specs.Run.{world, noneSent, tally}
+use Rattle.job.specs.Run.{tally}
 use Rattle.job.specs.Sent.{sentOf}
 use Rattle.job.specs.Formulas.{tallyOf, N}
-use Rattle.job.specs.Bill.{jobOf, billOf, playedAll, Loaded, loadOf}
+use Rattle.job.specs.Bill.{jobOf, billOf, Loaded, loadOf}
 use Rattle.job.proofs.Counts.{job-fair}
-use Rattle.driver.specs.Talk.{operationOf}
+use Rattle.driver.specs.Machine.{confirmAfter}
 use Rattle.least.specs.LeastTime.{rising}
-use Rattle.invoice.specs.Started.{cyclesIn, many}
-use Rattle.invoice.proofs.Listed.{filling, looking, sectoring, sectoringAll, operationsOf}
-use Rattle.invoice.proofs.Bits.{rises-is}
-use Rattle.invoice.proofs.Starts.{world-plays}
-use Rattle.invoice.proofs.Image.{image-held}
-use Rattle.invoice.proofs.Least.{fit-take, fit-drop, held}
+use Rattle.invoice.specs.Started.{many}
+use Rattle.invoice.proofs.Listed.{carrying, sectoring, sectoringAll, operationsOf}
+use Rattle.invoice.proofs.Bits.{erasesIf, decision-is}
+use Rattle.invoice.proofs.Least.{fit-take, fit-drop, held, cells-left}
 use Rattle.invoice.proofs.Billed.{ok, tally-is}
 
 -- ---- the job's operations, a sector's decision by how many of its cells have a bit that must rise: that is quick to compute
 module _ (j : Job) where
   unfoldable pub deciding : ℕ → List ℕ → List ℕ → List Operation
-  deciding a l v = pick (ltb 0 (rising (j .row .width) l v)) (operationOf (rowOf (j .part)) 1 a 0 ∷ filling j a v) (looking j a l v)
+  deciding a l v = carrying j a l v (erasesIf (ltb 0 (rising (j .row .width) l v)))
 
   unfoldable pub decidingAll : ℕ → ℕ → List ℕ → List ℕ → List Operation
   decidingAll a zero l v = []
@@ -50,12 +42,12 @@ module _ (j : Job) where
   decides (suc n) a l v f =
       let S = j .size in
       let W = j .row .width in
-      rw (rises-is W (take S l) (take S v) (fit-take W S v f))
+      rw (decision-is W (take S l) (take S v) (fit-take W S v f))
       (ap (λ (os : List Operation). deciding a (take S l) (take S v) ++ os) (decides n (a + S) (drop S l) (drop S v) (fit-drop W S v f)))
 
 -- the counts that e erases and q programs come to
 abbrev pub counted : Job → ℕ → ℕ → Tally
-counted j e q = tally e q (e * N j 1 + q * N j 0) (j .count + j .count - e * j .size) (e + q) ((e * N j 1 + q * N j 0) * j .p)
+counted j e q = tally e q (e * N j 1 + q * N j 0) (j .count + j .count - e * j .size) (e + q) ((e * N j 1 + q * N j 0) * j .p + (e + q) * confirmAfter)
 
 -- the cells after operations, and the bill of them
 abbrev pub billedAt : Job → List Operation → List ℕ → Loaded
@@ -76,16 +68,6 @@ module _ (part : ℕ) (cells : List ℕ) (first : ℕ) (image : List ℕ) (wp : 
   abbrev os : List Operation
   os = operationsOf j image cells
 
-  cells-are : playedAll part cells first image wp p .cells ≡ completeAll (rowOf part) os cells
-  cells-are =
-      let w = ok part cells first image wp p accepted in
-      let s = held j image (w .right) cells (w .whole) in
-      let h = image-held j image (w .right) cells (w .whole) (sector-some (rowOf part .width)) in
-      let e = world-plays part (world cells noneSent) (sentOf j image cells) in
-      let rest : idle (play part (chip cells freshDevice) (cyclesIn (sentOf j image cells)) .device) ≡ true = rw (← e, h .ready .rest) fresh-idle in
-      ap (λ (h : Chip). h .cells) e
-      ∙ (trace part (cyclesIn (sentOf j image cells)) (chip cells freshDevice) (s .whole) fresh-idle rest ∙ ap (λ (os : List Operation). completeAll (rowOf part) os cells) (s .begun))
-
   counts-are : tallyOf (sentOf j image cells) ≡ counted j (many 1 os) (many 0 os)
   counts-are =
       let w = ok part cells first image wp p accepted in
@@ -93,16 +75,16 @@ module _ (part : ℕ) (cells : List ℕ) (first : ℕ) (image : List ℕ) (wp : 
       let f = job-fair j image (w .right) cells (w .whole) in
       rw (← s .erases, ← s .programs) (same (tallyOf (sentOf j image cells)) (f .polls) (f .spent) (f .confirms) (f .scans))
     where
-      same : (t : Tally) → t .polls ≡ t .erases * N j 1 + t .programs * N j 0 → t .time ≡ t .polls * j .p → t .confirms ≡ t .erases + t .programs
+      same : (t : Tally) → t .polls ≡ t .erases * N j 1 + t .programs * N j 0 → t .time ≡ t .polls * j .p + t .confirms * confirmAfter → t .confirms ≡ t .erases + t .programs
           → t .scans + t .erases * j .size ≡ j .count + j .count → t ≡ counted j (t .erases) (t .programs)
       same t a b c d =
           let e : t .scans ≡ j .count + j .count - t .erases * j .size = omega arith in
-          rw (← e, ← a, ← b, ← c)
+          rw (← e, ← a, ← c, ← b)
 
   by-operations : loadOf part cells first image wp p ≡ reckonedBy j cells os
   unfolding loadOf
   by-operations =
-      rw (eq-eqb (jobRefusal part (length cells) first image wp p) 0 accepted, tally-is part cells first image wp p accepted, counts-are, cells-are)
+      rw (eq-eqb (jobRefusal part (length cells) first image wp p) 0 accepted, tally-is part cells first image wp p accepted, counts-are, cells-left j image (ok part cells first image wp p accepted .right) cells (ok part cells first image wp p accepted .whole))
 
   pub loads : loadOf part cells first image wp p ≡ reckoned j image cells
   loads = by-operations ∙ ap (reckonedBy j cells) (decides j (j .count / j .size) first (drop first cells) image (ok part cells first image wp p accepted .right .fits))

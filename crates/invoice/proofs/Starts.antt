@@ -1,8 +1,8 @@
 -- The operations that sent cycles start: none by reads, one by an operation's cycles; and the erases and programs counted are those operations.
-use Prim.Native.Nat.{ℕ, zero, suc, _+_, _*_, _≤_, _<_}
+use Prim.Native.Nat.{ℕ, zero, suc, _+_, _≤_, _<_}
 use mathlib.Core.Path.{_≡_, refl, sym, ap, ap₂, _∙_}
 use mathlib.Core.Bool.{Bool, true, false}
-use mathlib.Core.List.{List, [], _∷_, _++_, map-append}
+use mathlib.Core.List.{List, [], _∷_, _++_, map, append-assoc, map-append}
 use native.Mathlib.Nat.{zero-add, add-zero}
 use native.Mathlib.Omega.{arith}
 use borrow.Author.Tests.{ne-eqb}
@@ -10,32 +10,33 @@ use lib.Dec.{eqb}
 use lib.ListN.{length, replicate}
 use Rattle.parts.specs.Pick.{pick}
 use Rattle.parts.specs.Table.{rowOf}
-use Rattle.parts.proofs.Every.{every}
 use Rattle.parts.specs.Time.{pollsOf}
 use Rattle.chip.specs.declared.device.Operation.{Operation}
 use Rattle.chip.specs.declared.cycle.Action.the-variants.{Read}
 use Rattle.chip.specs.declared.cycle.Cycle.{Cycle}
-use Rattle.chip.specs.Device.{idle}
+use Rattle.chip.specs.Device.{freshDevice, idle}
 use Rattle.chip.specs.Sequence.{ignored}
-use Rattle.chip.specs.Cycle.{Chip}
+use Rattle.chip.specs.Cycle.{cycle, Chip, chip}
 use Rattle.chip.specs.Trace.{after, play, startedIn, uncut}
 use Rattle.chip.proofs.Started.{started-append, read-starts, reads-start, one-read-starts, uncut-append}
 use Rattle.commands.specs.declared.write.Write.{Write}
-use Rattle.driver.specs.Writes.{writesOf}
-use Rattle.driver.specs.Talk.{writeCycles, operationOf, cycle}
+use Rattle.driver.specs.Writes.{writesOf, writeCount}
+use Rattle.driver.specs.Machine.{addressOf, confirmAfter}
+use Rattle.driver.specs.Talk.{writeCycles, operationOf, completed}
+use Rattle.driver.specs.Reads.{Scans, Polls, Confirms, Place, ARead, NoRead, placesIn}
 use Rattle.driver.specs.Refusals.{startRefusal}
 use Rattle.driver.proofs.Asked.{asking, begun}
-use Rattle.driver.proofs.Theorems.{writes-start}
+use Rattle.driver.proofs.Theorems.{writes-start, placed as operation-placed}
 use Rattle.job.specs.declared.loader.Job.{Job}
 use Rattle.job.specs.declared.loader.Purpose.the-variants.{Poll, Confirm}
 use Rattle.job.specs.declared.run.Tally.{Tally}
 use Rattle.job.specs.Run.{Sent, sent, World, tally, sendOf, playOf}
 use Rattle.job.specs.Sent.{operated, scanRead}
-use Rattle.job.specs.Formulas.{tallyOf, N}
+use Rattle.job.specs.Formulas.{tallyOf, N, operationTime}
 use Rattle.job.proofs.Rest.{chipOf}
 use Rattle.job.proofs.Counts.{tally-append, program-tally, erase-tally}
 use Rattle.invoice.specs.Started.{cyclesIn, many}
-use Rattle.invoice.proofs.Honest.{honest, every-append, operated-honest}
+use Rattle.invoice.proofs.Placed.{placedAs}
 
 -- ---- no cut
 writes-uncut : (wp : Bool) (ws : List Write) → uncut (writeCycles wp ws) ≡ true
@@ -62,7 +63,7 @@ polls-cycles (suc n) c d = ap (λ (l : List Cycle). c ∷ l) (polls-cycles n c d
 
 pub operated-cycles : (j : Job) (command a x : ℕ) → command ≤ 1
     → cyclesIn (operated j command a x)
-    ≡ writeCycles (j .wp) (writesOf (j .row) command a x) ++ (replicate (pollsOf (j .row) command (j .p)) (cycle (j .p) (j .wp) (Read a)) ++ (cycle 0 (j .wp) (Read a) ∷ []))
+    ≡ writeCycles (j .wp) (writesOf (j .row) command a x) ++ (replicate (pollsOf (j .row) command (j .p)) (cycle (j .p) (j .wp) (Read a)) ++ (cycle confirmAfter (j .wp) (Read a) ∷ []))
 unfolding operated writesOf
 operated-cycles j zero a x le = ap (λ (l : List Cycle). writeCycles (j .wp) (writesOf (j .row) 0 a x) ++ l) (polls-cycles (pollsOf (j .row) 0 (j .p)) _ _)
 operated-cycles j (suc zero) a x le = ap (λ (l : List Cycle). writeCycles (j .wp) (writesOf (j .row) 1 a x) ++ l) (polls-cycles (pollsOf (j .row) 1 (j .p)) _ _)
@@ -80,8 +81,8 @@ pub record Starts (part : ℕ) (w : World) (L : List Sent) (os : List Operation)
   pub blocks : many 2 os ≡ 0
   pub chips : many 3 os ≡ 0
   pub whole : uncut (cyclesIn L) ≡ true
-  -- and the cycles are what their purposes say
-  pub said : every honest L ≡ true
+  -- and in their places the cycles are what their purposes say, whatever follows
+  pub placed : (cs : List Cycle) → placesIn part Scans (chipOf w) (cyclesIn L ++ cs) ≡ map placedAs L ++ placesIn part Scans (chipOf (playOf part w L)) cs
 
 many-append : (k : ℕ) (os ps : List Operation) → many k (os ++ ps) ≡ many k os + many k ps
 many-append k [] ps = sym (zero-add (many k ps))
@@ -91,7 +92,7 @@ module _ (part : ℕ) (w : World) where
   -- no cycle
   pub starts-none : Starts part w [] []
   unfolding tallyOf
-  starts-none = record { begun = refl; erases = refl; programs = refl; blocks = refl; chips = refl; whole = refl; said = refl }
+  starts-none = record { begun = refl; erases = refl; programs = refl; blocks = refl; chips = refl; whole = refl; placed = λ cs. refl }
 
   -- two lists in a row
   pub starts-append : (L M : List Sent) (os ps : List Operation) → Starts part w L os → Starts part (playOf part w L) M ps → Starts part w (L ++ M) (os ++ ps)
@@ -106,19 +107,26 @@ module _ (part : ℕ) (w : World) where
         blocks = omega (arith, many-append 2 os ps, s .blocks, t .blocks);
         chips = omega (arith, many-append 3 os ps, s .chips, t .chips);
         whole = ap uncut (cycles-append L M) ∙ uncut-append (cyclesIn L) (cyclesIn M) (s .whole) (t .whole);
-        said = every-append L M (s .said) (t .said);
+        placed = λ cs.
+            ap (λ (l : List Cycle). placesIn part Scans (chipOf w) (l ++ cs)) (cycles-append L M)
+            ∙ (ap (placesIn part Scans (chipOf w)) (append-assoc (cyclesIn L) (cyclesIn M) cs)
+            ∙ (s .placed (cyclesIn M ++ cs)
+            ∙ (ap (λ (ps : List Place). map placedAs L ++ ps) (t .placed cs)
+            ∙ (sym (append-assoc (map placedAs L) (map placedAs M) (placesIn part Scans (chipOf (playOf part (playOf part w L) M)) cs))
+            ∙ rw (map-append placedAs L M, play-append part w L M)))));
       }
 
   module _ (j : Job) (a : ℕ) where
     -- a read
     pub starts-read : Starts part w (scanRead j a ∷ []) []
-    unfolding tallyOf
-    starts-read = record { begun = rw (read-starts part (chipOf w) 0 (j .wp) a); erases = refl; programs = refl; blocks = refl; chips = refl; whole = refl; said = refl }
+    unfolding tallyOf sendOf after
+    starts-read = record { begun = rw (read-starts part (chipOf w) 0 (j .wp) a); erases = refl; programs = refl; blocks = refl; chips = refl; whole = refl; placed = λ cs. refl }
 
 -- an operation's cycles, from an idle chip, where it is accepted and not ignored
 module _ (j : Job) (command a x : ℕ) (few : command ≤ 1) (row : j .row ≡ rowOf (j .part)) (w : World)
     (accepted : startRefusal (j .part) command a x (j .p) ≡ 0) (whole : length (w .cells) ≡ rowOf (j .part) .cells)
-    (rests : idle (w .held .device) ≡ true) (heeded : ignored (rowOf (j .part)) (j .wp) command a ≡ false) where
+    (rests : idle (w .held .device) ≡ true) (heeded : ignored (rowOf (j .part)) (j .wp) command a ≡ false)
+    (left : chipOf (playOf (j .part) w (operated j command a x)) ≡ chip (completed (rowOf (j .part)) command a x (w .cells)) freshDevice) where
   abbrev o : Operation
   o = operationOf (rowOf (j .part)) command a x
 
@@ -127,7 +135,7 @@ module _ (j : Job) (command a x : ℕ) (few : command ≤ 1) (row : j .row ≡ r
 
   listed : cyclesIn (operated j command a x)
       ≡ writeCycles (j .wp) (writesOf (rowOf (j .part)) command a x)
-      ++ (replicate (pollsOf (rowOf (j .part)) command (j .p)) (cycle (j .p) (j .wp) (Read a)) ++ (cycle 0 (j .wp) (Read a) ∷ []))
+      ++ (replicate (pollsOf (rowOf (j .part)) command (j .p)) (cycle (j .p) (j .wp) (Read a)) ++ (cycle confirmAfter (j .wp) (Read a) ∷ []))
   listed = rw (← row) (operated-cycles j command a x few)
 
   operated-begun : startedIn (j .part) (chipOf w) (cyclesIn (operated j command a x)) ≡ o ∷ []
@@ -138,9 +146,39 @@ module _ (j : Job) (command a x : ℕ) (few : command ≤ 1) (row : j .row ≡ r
       ap (startedIn (j .part) (chipOf w)) listed
       ∙ (started-append (j .part) (chipOf w) ws _
       ∙ ap₂ {A = List Operation} {B = List Operation} {C = List Operation} (λ x y. x ++ y) (s .1)
-      (reads-start (j .part) n (j .p) (j .wp) a (cycle 0 (j .wp) (Read a) ∷ []) (one-read-starts (j .part) 0 (j .wp) a) (play (j .part) (chipOf w) ws)))
+      (reads-start (j .part) n (j .p) (j .wp) a (cycle confirmAfter (j .wp) (Read a) ∷ []) (one-read-starts (j .part) confirmAfter (j .wp) a) (play (j .part) (chipOf w) ws)))
 
-  tallies : (c : ℕ) → c ≤ 1 → tallyOf (operated j c a x) ≡ tally (pick (eqb c 1) 1 0) (pick (eqb c 0) 1 0) (N j c) 0 1 (N j c * j .p)
+  polls-placed : (m : ℕ) (c d : Cycle) → map placedAs (replicate m (sent Poll c) ++ (sent Confirm d ∷ [])) ≡ replicate m (ARead Polls) ++ (ARead Confirms ∷ [])
+  polls-placed zero c d = refl
+  polls-placed (suc m) c d = ap (λ (ps : List Place). ARead Polls ∷ ps) (polls-placed m c d)
+
+  -- their places
+  places-are : (c : ℕ) → c ≤ 1 → map placedAs (operated j c a x) ≡ replicate (writeCount c) NoRead ++ (replicate (pollsOf (j .row) c (j .p)) (ARead Polls) ++ (ARead Confirms ∷ []))
+  unfolding operated writesOf writeCount
+  places-are zero le = ap (λ (ps : List Place). replicate 4 NoRead ++ ps) (polls-placed (pollsOf (j .row) 0 (j .p)) _ _)
+  places-are (suc zero) le = ap (λ (ps : List Place). replicate 6 NoRead ++ ps) (polls-placed (pollsOf (j .row) 1 (j .p)) _ _)
+  places-are (suc (suc c)) le = absurd (omega arith)
+
+  operated-placed : (cs : List Cycle) → placesIn (j .part) Scans (chipOf w) (cyclesIn (operated j command a x) ++ cs)
+      ≡ map placedAs (operated j command a x) ++ placesIn (j .part) Scans (chipOf (playOf (j .part) w (operated j command a x))) cs
+  operated-placed cs =
+      let r = rowOf (j .part) in
+      let plain : addressOf command a ≡ a = rw (ne-eqb command 3 (λ e. omega arith)) in
+      let c = cycle confirmAfter (j .wp) (Read a) in
+      let polls = replicate n (cycle (j .p) (j .wp) (Read a)) in
+      rw (
+        listed,
+        append-assoc (writeCycles (j .wp) (writesOf r command a x)) (polls ++ (c ∷ [])) cs,
+        append-assoc polls (c ∷ []) cs,
+        left,
+        places-are command few,
+        row,
+        append-assoc (replicate (writeCount command) NoRead) (replicate n (ARead Polls) ++ (ARead Confirms ∷ [])) (placesIn (j .part) Scans (chip (completed r command a x (w .cells)) freshDevice) cs),
+        append-assoc (replicate n (ARead Polls)) (ARead Confirms ∷ []) (placesIn (j .part) Scans (chip (completed r command a x (w .cells)) freshDevice) cs),
+      )
+      (rw plain at (operation-placed (j .part) command a x (j .p) (j .wp) (w .cells) (w .held .device) accepted whole rests heeded cs))
+
+  tallies : (c : ℕ) → c ≤ 1 → tallyOf (operated j c a x) ≡ tally (pick (eqb c 1) 1 0) (pick (eqb c 0) 1 0) (N j c) 0 1 (operationTime j c)
   tallies zero le = program-tally j a x
   tallies (suc zero) le = erase-tally j a x
   tallies (suc (suc c)) le = absurd (omega arith)
@@ -152,13 +190,13 @@ module _ (j : Job) (command a x : ℕ) (few : command ≤ 1) (row : j .row ≡ r
   starts-operated =
       let t = tallies command few in
       let ws = writeCycles (j .wp) (writesOf (rowOf (j .part)) command a x) in
-      let reads = replicate n (cycle (j .p) (j .wp) (Read a)) ++ (cycle 0 (j .wp) (Read a) ∷ []) in
+      let reads = replicate n (cycle (j .p) (j .wp) (Read a)) ++ (cycle confirmAfter (j .wp) (Read a) ∷ []) in
       record {
         begun = operated-begun;
         erases = ap (λ (t : Tally). t .erases) t ∙ sym (add-zero _);
         programs = ap (λ (t : Tally). t .programs) t ∙ sym (add-zero _);
         blocks = other command few 2 (omega arith);
         chips = other command few 3 (omega arith);
-        whole = ap uncut listed ∙ uncut-append ws reads (writes-uncut (j .wp) (writesOf (rowOf (j .part)) command a x)) (reads-uncut n (j .p) 0 (j .wp) a);
-        said = operated-honest j command a x (begun (j .part) command a x (j .p) accepted .some);
+        whole = ap uncut listed ∙ uncut-append ws reads (writes-uncut (j .wp) (writesOf (rowOf (j .part)) command a x)) (reads-uncut n (j .p) confirmAfter (j .wp) a);
+        placed = operated-placed;
       }

@@ -4,6 +4,7 @@ use mathlib.Core.Path.{_≡_}
 use mathlib.Core.Bool.{Bool, true}
 use mathlib.Core.List.{List}
 use lib.ListN.{length, getD, take, drop}
+use Rattle.parts.specs.Names.{PROGRAM, SECTOR, BLOCK, CHIP}
 use Rattle.parts.specs.Width.{valueOf, sectorSize}
 use Rattle.parts.specs.Table.{rowOf}
 use Rattle.parts.specs.Time.{pollsOf}
@@ -13,10 +14,11 @@ use Rattle.chip.specs.declared.cycle.Cycle.{Cycle}
 use Rattle.chip.specs.Device.{freshDevice, idle}
 use Rattle.chip.specs.Cycle.{chip}
 use Rattle.chip.specs.Trace.{play, startedIn, uncut as uncutAll}
+use Rattle.driver.specs.Reads.{Scans, Polls, Confirms, Place, placesIn, howMany}
 use Rattle.job.specs.Total.{sumOf}
 use Rattle.job.specs.Sent.{sentOf}
 use Rattle.job.specs.Bill.{jobOf, playedAll, Loaded, Reported}
-use Rattle.invoice.specs.Started.{cyclesIn, sumIn, aPoll, aRead, theTime, many}
+use Rattle.invoice.specs.Started.{cyclesIn, timeIn, many}
 
 -- the job's bus cycles
 abbrev pub sentCycles : ℕ → List ℕ → ℕ → List ℕ → Bool → ℕ → List Cycle
@@ -26,6 +28,10 @@ sentCycles part cells first image wp p = cyclesIn (sentOf (jobOf part first (len
 abbrev pub started : ℕ → List ℕ → ℕ → List ℕ → Bool → ℕ → List Operation
 started part cells first image wp p = startedIn part (chip cells freshDevice) (sentCycles part cells first image wp p)
 
+-- what each of them is, told by its place on the chip
+abbrev pub placesSent : ℕ → List ℕ → ℕ → List ℕ → Bool → ℕ → List Place
+placesSent part cells first image wp p = placesIn part Scans (chip cells freshDevice) (sentCycles part cells first image wp p)
+
 -- what is said of the cells and the bill that a job came to
 pub record Invoice (part : ℕ) (cells : List ℕ) (first : ℕ) (image : List ℕ) (wp : Bool) (p : ℕ) (l : Loaded) : Type 0 where
   -- the range holds the image, meant of values; every other cell is the word that it was; the device ends fresh, and so idle
@@ -34,22 +40,23 @@ pub record Invoice (part : ℕ) (cells : List ℕ) (first : ℕ) (image : List �
   pub above : (i : ℕ) → first + length image ≤ i → getD (l .cells) i 0 ≡ getD cells i 0
   pub rests : playedAll part cells first image wp p .held .device ≡ freshDevice
   -- the erases and programs are the operations that the cycles sent start on the chip; they start no other
-  pub erases : l .bill .erases ≡ many 1 (started part cells first image wp p)
-  pub programs : l .bill .programs ≡ many 0 (started part cells first image wp p)
-  pub blocks : many 2 (started part cells first image wp p) ≡ 0
-  pub chips : many 3 (started part cells first image wp p) ≡ 0
-  -- the polls, the scans and confirming reads, and the time are those of the cycles sent
-  pub polled : l .bill .polls ≡ sumIn aPoll (sentCycles part cells first image wp p)
-  pub read : l .bill .scans + l .bill .confirms ≡ sumIn aRead (sentCycles part cells first image wp p)
-  pub timed : l .bill .spent ≡ sumIn theTime (sentCycles part cells first image wp p)
+  pub erases : l .bill .erases ≡ many SECTOR (started part cells first image wp p)
+  pub programs : l .bill .programs ≡ many PROGRAM (started part cells first image wp p)
+  pub blocks : many BLOCK (started part cells first image wp p) ≡ 0
+  pub chips : many CHIP (started part cells first image wp p) ≡ 0
+  -- the polls, the scans and the confirming reads are those of the cycles sent, told by their places; and the time is theirs
+  pub polled : l .bill .polls ≡ howMany Polls (placesSent part cells first image wp p)
+  pub scanned : l .bill .scans ≡ howMany Scans (placesSent part cells first image wp p)
+  pub confirmed : l .bill .confirms ≡ howMany Confirms (placesSent part cells first image wp p)
+  pub timed : l .bill .spent ≡ timeIn (sentCycles part cells first image wp p)
   -- polls = sum of N over operations; spent = polls times p; confirms = erases + programs
-  pub polls : l .bill .polls ≡ l .bill .erases * pollsOf (rowOf part) 1 p + l .bill .programs * pollsOf (rowOf part) 0 p
+  pub polls : l .bill .polls ≡ l .bill .erases * pollsOf (rowOf part) SECTOR p + l .bill .programs * pollsOf (rowOf part) PROGRAM p
   pub spent : l .bill .spent ≡ l .bill .polls * p
   pub confirms : l .bill .confirms ≡ l .bill .erases + l .bill .programs
   -- scans = cells in range plus cells of unerased sectors: with the cells of erased sectors they are twice the range's
   pub scans : l .bill .scans + l .bill .erases * sectorSize (rowOf part .width) ≡ length image + length image
   -- saved = (every sector erased and every cell programmed, each at N times p) less spent
-  pub saved : l .bill .saved + l .bill .spent ≡ (length image / sectorSize (rowOf part .width) * pollsOf (rowOf part) 1 p + length image * pollsOf (rowOf part) 0 p) * p
+  pub saved : l .bill .saved + l .bill .spent ≡ length image / sectorSize (rowOf part .width) * (pollsOf (rowOf part) SECTOR p * p) + length image * (pollsOf (rowOf part) PROGRAM p * p)
   -- sum = the range's values added in 16 bits, wrapping; and the answer is 0
   pub sum : l .bill .sum ≡ sumOf (rowOf part .width) (take (length image) (drop first (l .cells)))
   pub answer : l .bill .answer ≡ 0
@@ -57,9 +64,10 @@ pub record Invoice (part : ℕ) (cells : List ℕ) (first : ℕ) (image : List �
 -- what is said of the cells and the report that a second call came to: the first k of the job's bus cycles, all if fewer, played and counted
 pub record Partly (part : ℕ) (cells : List ℕ) (first : ℕ) (image : List ℕ) (wp : Bool) (p k : ℕ) (l : Reported) : Type 0 where
   pub played : l .cells ≡ play part (chip cells freshDevice) (take k (sentCycles part cells first image wp p)) .cells
-  pub polled : l .report .polls ≡ sumIn aPoll (take k (sentCycles part cells first image wp p))
-  pub read : l .report .scans + l .report .confirms ≡ sumIn aRead (take k (sentCycles part cells first image wp p))
-  pub timed : l .report .time ≡ sumIn theTime (take k (sentCycles part cells first image wp p))
+  pub polled : l .report .polls ≡ howMany Polls (placesIn part Scans (chip cells freshDevice) (take k (sentCycles part cells first image wp p)))
+  pub scanned : l .report .scans ≡ howMany Scans (placesIn part Scans (chip cells freshDevice) (take k (sentCycles part cells first image wp p)))
+  pub confirmed : l .report .confirms ≡ howMany Confirms (placesIn part Scans (chip cells freshDevice) (take k (sentCycles part cells first image wp p)))
+  pub timed : l .report .time ≡ timeIn (take k (sentCycles part cells first image wp p))
   pub sent : l .report .sent ≡ length (take k (sentCycles part cells first image wp p))
   pub answer : l .report .answer ≡ 0
 
@@ -67,7 +75,7 @@ pub record Partly (part : ℕ) (cells : List ℕ) (first : ℕ) (image : List �
 pub record Rival (part : ℕ) (cells : List ℕ) (first : ℕ) (image : List ℕ) (d : Device) (cs : List Cycle) : Type 0 where
   pub begins : idle d ≡ true
   pub uncut : uncutAll cs ≡ true
-  pub blocks : many 2 (startedIn part (chip cells d) cs) ≡ 0
-  pub chips : many 3 (startedIn part (chip cells d) cs) ≡ 0
+  pub blocks : many BLOCK (startedIn part (chip cells d) cs) ≡ 0
+  pub chips : many CHIP (startedIn part (chip cells d) cs) ≡ 0
   pub ends : idle (play part (chip cells d) cs .device) ≡ true
   pub holds : (i : ℕ) → i < length image → valueOf (rowOf part .width) (getD (play part (chip cells d) cs .cells) (first + i) 0) ≡ getD image i 0

@@ -18,7 +18,7 @@ use Rattle.parts.proofs.Ranges.{holds-bounds}
 use Rattle.chip.specs.Sequence.{ignored}
 use Rattle.job.specs.Refusal.{meets, protectionRefusal, rangeRefusal, jobRefusal}
 use Rattle.job.specs.Bill.{jobOf}
-use Rattle.job.proofs.Right.{Right}
+use Rattle.job.proofs.AcceptedJob.{AcceptedJob}
 
 -- a range that holds none of a span's cells: no address of it is in the span
 apart-from : (s : Span) (first count a : ℕ) → meets s first count ≡ false → first ≤ a → a < first + count → holdsb s a ≡ false
@@ -46,7 +46,7 @@ sector-most w = split (λ (n : ℕ). n ≤ 4096) (eqb w 8) 4096 2048 (λ _. omeg
 -- ---- the refusals, one by one
 pub record Passed (part lent first : ℕ) (image : List ℕ) (wp : Bool) (p : ℕ) : Type 0 where
   pub whole : lent ≡ rowOf part .cells
-  pub right : Right (jobOf part first (length image) wp p) image
+  pub right : AcceptedJob (jobOf part first (length image) wp p) image
 
 pub passed : (part lent first : ℕ) (image : List ℕ) (wp : Bool) (p : ℕ) → jobRefusal part lent first image wp p ≡ 0 → Passed part lent first image wp p
 unfolding jobRefusal rangeRefusal

@@ -1,5 +1,5 @@
 -- What the two calls need of a job that is not refused, and what they hand back.
-use Prim.Native.Nat.{ℕ, _+_, _*_, _/_, _≤_}
+use Prim.Native.Nat.{ℕ, zero, suc, _+_, _*_, _/_, _≤_}
 use mathlib.Core.Path.{_≡_, refl, sym, ap, ap₂, _∙_}
 use mathlib.Core.Bool.{Bool}
 use mathlib.Core.List.{List}
@@ -10,46 +10,50 @@ use lib.Dec.{ltb}
 use lib.ListN.{length, take, drop}
 use lib.Seq.{take-all}
 use Rattle.parts.specs.Table.{rowOf}
-use Rattle.parts.specs.Time.{timeOf, pollsOf}
+use Rattle.parts.specs.Time.{timeOf}
 use Rattle.parts.proofs.Every.{split}
 use Rattle.parts.proofs.Sound.{width-most, cells-most, time-most}
 use Rattle.parts.proofs.Ranges.{sector-some}
+use Rattle.driver.specs.Machine.{confirmAfter}
 use Rattle.driver.proofs.Ready.{rounded-le}
 use Rattle.job.specs.declared.loader.Job.{Job}
 use Rattle.job.specs.declared.run.Held.{Held}
 use Rattle.job.specs.declared.run.Ended.{Ended}
 use Rattle.job.specs.declared.bill.Bill.{Bill}
 use Rattle.job.specs.declared.bill.Report.{Report}
-use Rattle.job.specs.Kept.{Kept}
+use Rattle.job.specs.Fits.{JobFits}
 use Rattle.job.specs.Total.{sumOf}
 use Rattle.job.specs.Refusal.{jobRefusal}
 use Rattle.job.specs.Run.{World, world, noneSent, playOf, runFrom, stopFrom, ended}
 use Rattle.job.specs.Sent.{sentOf}
-use Rattle.job.specs.Bill.{Timed, jobOf, fullOf, firstFew, billOf, billed, reported, played, playedAll, reportOf, loadOf}
+use Rattle.job.specs.Formulas.{N, operationTime}
+use Rattle.job.specs.Bill.{FullTimeFits, jobOf, firstFew, billOf, billed, reported, played, playedAll, reportOf, loadOf}
 use Rattle.job.proofs.Accepts.{Passed, passed, sector-most}
 use Rattle.job.proofs.Runs.{runs, never-stops-short}
 use Rattle.job.proofs.Counts.{length-most}
 
 -- ---- a full job's time fits
-module _ (j : Job) (t : Timed j) where
-  polls-few : (command : ℕ) → timeOf (j .row) command ≤ 140000 → pollsOf (j .row) command (j .p) ≤ 140000
-  polls-few command h = omega (arith, rounded-le (timeOf (j .row) command) (j .p))
+module _ (j : Job) (t : FullTimeFits j) where
+  time-few : (command : ℕ) → command ≤ 1 → timeOf (j .row) command ≤ 140000
+  time-few zero h = t .program
+  time-few (suc zero) h = t .erase
+  time-few (suc (suc c)) h = absurd (omega arith)
+
+  pub polls-fit : (command : ℕ) → command ≤ 1 → N j command * j .p ≤ 140000 * 1000
+  polls-fit command h = let n : N j command ≤ 140000 = omega (arith, rounded-le (timeOf (j .row) command) (j .p), time-few command h) in mul-le-mul n (t .p)
+
+  operation-few : (command : ℕ) → command ≤ 1 → operationTime j command ≤ 150000000
+  unfolding confirmAfter
+  operation-few command h = omega (arith, polls-fit command h)
 
   pub sectors-few : j .count / j .size ≤ 4194304
   sectors-few = omega (arith, div-le-self (j .count) (j .size), t .count)
 
-  pub erases-fit : j .count / j .size * pollsOf (j .row) 1 (j .p) ≤ 4194304 * 140000
-  erases-fit = mul-le-mul sectors-few (polls-few 1 (t .erase))
+  pub erases-fit : j .count / j .size * operationTime j 1 ≤ 4194304 * 150000000
+  erases-fit = mul-le-mul sectors-few (operation-few 1 (omega arith))
 
-  pub programs-fit : j .count * pollsOf (j .row) 0 (j .p) ≤ 4194304 * 140000
-  programs-fit = mul-le-mul (t .count) (polls-few 0 (t .program))
-
-  both-fit : j .count / j .size * pollsOf (j .row) 1 (j .p) + j .count * pollsOf (j .row) 0 (j .p) ≤ 4194304 * 140000 + 4194304 * 140000
-  both-fit = omega (arith, erases-fit, programs-fit)
-
-  pub full-fits : fullOf j ≤ (4194304 * 140000 + 4194304 * 140000) * 1000
-  unfolding fullOf
-  full-fits = mul-le-mul both-fit (t .p)
+  pub programs-fit : j .count * operationTime j 0 ≤ 4194304 * 150000000
+  programs-fit = mul-le-mul (t .count) (operation-few 0 (omega arith))
 
 pub few-most : (k : ℕ) → firstFew k ≤ 2147483648
 few-most k = split (λ (n : ℕ). n ≤ 2147483648) (ltb 2147483648 k) 2147483648 k (λ _. le-refl 2147483648) (λ l. ltb-false 2147483648 k l)
@@ -71,10 +75,10 @@ module _ (part first : ℕ) (image cells : List ℕ) (wp : Bool) (p : ℕ) (z : 
   pub image-few : first + length image ≤ 4194304
   image-few = omega (arith, ok .right .range, cells-most part (ok .right .known))
 
-  pub kept : Kept j (length image)
+  pub kept : JobFits j (length image)
   kept = record { count = refl; range = image-few; some = sector-some (rowOf part .width); most = sector-most (rowOf part .width); narrow = width-most part (ok .right .known) }
 
-  pub timed : Timed j
+  pub timed : FullTimeFits j
   timed =
       record {
         some = sector-some (rowOf part .width);

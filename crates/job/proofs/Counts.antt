@@ -2,13 +2,13 @@
 use Prim.Native.Nat.{ℕ, zero, suc, zero-le, _+_, _*_, _/_, _≤_}
 use mathlib.Core.Path.{_≡_, refl, sym, ap, _∙_}
 use mathlib.Core.Bool.{Bool, true, false}
-use mathlib.Core.List.{List, [], _∷_, _++_, map}
-use native.Mathlib.Nat.{add-zero, zero-add, add-assoc, zero-mul, mul-add, le-refl, le-add-right as up}
+use mathlib.Core.List.{List, [], _∷_, _++_}
+use native.Mathlib.Nat.{add-zero, zero-add, add-assoc, zero-mul, mul-add, le-refl, mul-assoc}
 use native.Mathlib.Nat.{mul-le-mul, mul-le-mul-left, mul-le-mul-right, le-mul-of-pos-right, div-add-mod', div-mul-le-self}
 use native.Mathlib.Omega.{arith}
 use borrow.Author.Tests.{leb-true}
 use lib.Dec.{eqb, leb}
-use lib.ListN.{length, take, drop, replicate, take-append-drop, length-append, length-take, length-drop, length-replicate}
+use lib.ListN.{length, take, drop, replicate, length-append, length-take, length-drop, length-replicate}
 use Rattle.parts.specs.Pick.{pick}
 use Rattle.parts.specs.Width.{valueOf, blankOf, sectorSize}
 use Rattle.parts.specs.Table.{lines, noLine, rowFrom, rowOf, partRefusal}
@@ -18,17 +18,18 @@ use Rattle.parts.proofs.Every.{split, both, at}
 use Rattle.parts.proofs.Sound.{known, cells-most}
 use Rattle.parts.proofs.Rounding.{least}
 use Rattle.chip.specs.declared.cycle.Action.{Action}
+use Rattle.chip.specs.Cycle.{cycle}
 use Rattle.driver.specs.Writes.{writesOf}
 use Rattle.job.specs.declared.loader.Job.{Job}
 use Rattle.job.specs.declared.loader.Purpose.{Purpose}
 use Rattle.job.specs.declared.loader.Purpose.the-variants.{Scan, Lead, Begin, Poll, Confirm}
 use Rattle.job.specs.declared.run.Tally.{Tally}
-use Rattle.job.specs.Search.{rises}
-use Rattle.job.specs.Loader.{cycle}
+use Rattle.job.specs.declared.search.Decision.{Decision}
+use Rattle.job.specs.declared.search.Decision.the-variants.{NoErase, SectorErase}
 use Rattle.job.specs.Run.{Sent, World, sent, tally, countedOf, begunOf, sendOf, playOf}
-use Rattle.job.specs.Sent.{operated, scanRead, scans, fills, looks, sectorSent, sectorsSent, sentOf}
-use Rattle.job.specs.Formulas.{plus, noTally, tallyOf, N, Fair, marksOf, unlikeOf}
-use Rattle.job.proofs.Right.{Right}
+use Rattle.job.specs.Sent.{operated, scanRead, scans, fills, looks, sectorSent, sectorsSent, sentOf, carries, decidedOn}
+use Rattle.job.specs.Formulas.{plus, noTally, tallyOf, N, operationTime, FollowsFormulas}
+use Rattle.job.proofs.AcceptedJob.{AcceptedJob}
 
 -- ---- sums of counts
 -- nothing and t
@@ -80,22 +81,6 @@ tally-append (s ∷ L) M =
     let t = countedOf noTally (s .purpose) (s .cycle .elapsed) in
     ap (plus t) (tally-append L M) ∙ sym (plus-plus t (tallyOf L) (tallyOf M))
 
--- counts none of which is above another's
-pub record AtMost (t u : Tally) : Type 0 where
-  pub erases : t .erases ≤ u .erases
-  pub programs : t .programs ≤ u .programs
-  pub polls : t .polls ≤ u .polls
-  pub scans : t .scans ≤ u .scans
-  pub confirms : t .confirms ≤ u .confirms
-  pub time : t .time ≤ u .time
-
--- the first k cycles count no more than all
-pub take-most : (k : ℕ) (L : List Sent) → AtMost (tallyOf (take k L)) (tallyOf L)
-take-most k L = rw (sym (ap tallyOf (take-append-drop k L)) ∙ tally-append (take k L) (drop k L)) (more (tallyOf (take k L)) (tallyOf (drop k L)))
-  where
-    more : (t u : Tally) → AtMost t (plus t u)
-    more t u = record { erases = up _ _; programs = up _ _; polls = up _ _; scans = up _ _; confirms = up _ _; time = up _ _ }
-
 -- ---- an operation, and reads
 -- n polls, e µs each
 polls-tally : (n e : ℕ) (wp : Bool) (a : Action) → tallyOf (replicate n (sent Poll (cycle e wp a))) ≡ tally 0 0 n 0 0 (n * e)
@@ -108,27 +93,19 @@ polls-tally (suc n) e wp a =
 
 module _ (j : Job) where
   -- one program: N polls p apart, one confirming read
-  pub program-tally : (a x : ℕ) → tallyOf (operated j 0 a x) ≡ tally 0 1 (N j 0) 0 1 (N j 0 * j .p)
+  pub program-tally : (a x : ℕ) → tallyOf (operated j 0 a x) ≡ tally 0 1 (N j 0) 0 1 (operationTime j 0)
   unfolding operated writesOf tallyOf
   program-tally a x = simp (tally-append, polls-tally, zero-add, add-zero)
 
   -- one sector erase
-  pub erase-tally : (a x : ℕ) → tallyOf (operated j 1 a x) ≡ tally 1 0 (N j 1) 0 1 (N j 1 * j .p)
+  pub erase-tally : (a x : ℕ) → tallyOf (operated j 1 a x) ≡ tally 1 0 (N j 1) 0 1 (operationTime j 1)
   unfolding operated writesOf tallyOf
   erase-tally a x = simp (tally-append, polls-tally, zero-add, add-zero)
-
-  -- n reads
-  pub scans-tally : (a n : ℕ) → tallyOf (scans j a n) ≡ tally 0 0 0 n 0 0
-  unfolding scans tallyOf
-  scans-tally a zero = refl
-  scans-tally a (suc n) =
-      let i : 1 + n ≡ suc n = omega arith in
-      simp (scans-tally (a + 1) n, i)
 
   -- ---- the formulas
   -- they hold of a list
   abbrev pub Fairly : List Sent → ℕ → ℕ → ℕ → Type 0
-  Fairly L s e c = Fair j (tallyOf L) (length L) s e c
+  Fairly L s e c = FollowsFormulas j (tallyOf L) (length L) s e c
 
   -- of two lists together, if of each
   joined : (L M : List Sent) (s e c s′ e′ c′ : ℕ) {s″ e″ c″ : ℕ} → Fairly L s e c → Fairly M s′ e′ c′
@@ -157,7 +134,7 @@ module _ (j : Job) where
       rw (program-tally a x)
       record {
         polls = omega arith;
-        spent = refl;
+        spent = omega arith;
         confirms = refl;
         scans = omega arith;
         erases = zero-le;
@@ -172,7 +149,7 @@ module _ (j : Job) where
       rw (erase-tally a x)
       record {
         polls = omega arith;
-        spent = refl;
+        spent = omega arith;
         confirms = refl;
         scans = omega arith;
         erases = le-refl _;
@@ -224,13 +201,11 @@ module _ (j : Job) where
   sector-fair : (a : ℕ) (l v : List ℕ) → length l ≡ j .size → length v ≡ j .size → Fairly (sectorSent j a l v) (j .size + j .size) 1 (j .size)
   unfolding sectorSent
   sector-fair a l v hl hv =
-      let r = rises (j .row .width) (map (valueOf (j .row .width)) l) v in
-      joined (scans j a (j .size)) (pick r (operated j 1 a 0 ++ fills j a v) (looks j a l v)) (j .size) 0 0 (j .size) 1 (j .size)
-      (scans-fair a (j .size))
-      (split (λ (L : List Sent). Fairly L (j .size) 1 (j .size)) r (operated j 1 a 0 ++ fills j a v) (looks j a l v)
-      (λ _. joined (operated j 1 a 0) (fills j a v) (j .size) 1 0 0 0 (length v) (erase-fair a 0) (fills-fair a v) (omega arith) (le-refl _) (omega arith))
-      (λ _. wider (looks j a l v) (length l) 0 (length l) (j .size) 1 (j .size) (looks-fair a l v (hl ∙ sym hv)) hl zero-le (omega arith)))
-      refl (le-refl _) (omega arith)
+      joined (scans j a (j .size)) (carries j a l v (decidedOn j l v)) (j .size) 0 0 (j .size) 1 (j .size) (scans-fair a (j .size)) (by (decidedOn j l v)) refl (le-refl _) (omega arith)
+    where
+      by : (t : Decision) → Fairly (carries j a l v t) (j .size) 1 (j .size)
+      by NoErase = wider (looks j a l v) (length l) 0 (length l) (j .size) 1 (j .size) (looks-fair a l v (hl ∙ sym hv)) hl zero-le (omega arith)
+      by SectorErase = joined (operated j 1 a 0) (fills j a v) (j .size) 1 0 0 0 (length v) (erase-fair a 0) (fills-fair a v) (omega arith) (le-refl _) (omega arith)
 
   -- n sectors
   sectors-fair : (n a : ℕ) (l v : List ℕ) → n * j .size ≤ length l → n * j .size ≤ length v
@@ -245,55 +220,21 @@ module _ (j : Job) where
       (omega arith) (omega arith) (omega arith)
 
   -- ---- bounds
-  module _ (t : Tally) (n s e c : ℕ) (f : Fair j t n s e c) where
+  module _ (t : Tally) (n s e c : ℕ) (f : FollowsFormulas j t n s e c) where
     -- the polls of e erases and c programs
     polls-most : t .polls ≤ e * N j 1 + c * N j 0
     polls-most = omega (arith, f .polls, mul-le-mul-right (N j 1) (f .erases), mul-le-mul-right (N j 0) (f .programs))
 
-    -- the time of that many
-    pub spent-most : t .time ≤ (e * N j 1 + c * N j 0) * j .p
-    spent-most = rw (f .spent) (mul-le-mul-right (j .p) polls-most)
+    -- the time by operations, and that of so many
+    by-operation : t .time ≡ t .erases * operationTime j 1 + t .programs * operationTime j 0
+    by-operation = rw (f .spent, f .polls, f .confirms) (omega (arith, mul-assoc (t .erases) (N j 1) (j .p), mul-assoc (t .programs) (N j 0) (j .p)))
+
+    pub spent-most : t .time ≤ e * operationTime j 1 + c * operationTime j 0
+    spent-most = rw by-operation (omega (arith, mul-le-mul-right (operationTime j 1) (f .erases), mul-le-mul-right (operationTime j 0) (f .programs)))
 
     -- and the cycles
     pub cycles-most : n ≤ s + e * (N j 1 + 7) + c * (N j 0 + 5)
     cycles-most = omega (arith, f .scans, f .erases, f .programs, f .confirms, f .cycles, polls-most)
-
-  -- ---- how many programs, and a sector's counts by its decision
-  -- one program, or none
-  burn-programs : (b : Bool) (a x : ℕ) → tallyOf (pick b [] (operated j 0 a x)) .programs ≡ pick b 0 1
-  unfolding tallyOf
-  burn-programs true a x = refl
-  burn-programs false a x = rw (program-tally a x)
-
-  -- after an erase: the values that are not blank
-  pub fills-programs : (a : ℕ) (v : List ℕ) → tallyOf (fills j a v) .programs ≡ marksOf (j .row .width) v
-  unfolding fills marksOf tallyOf
-  fills-programs a [] = refl
-  fills-programs a (x ∷ v) =
-      let b = eqb x (blankOf (j .row .width)) in
-      rw (tally-append (pick b [] (operated j 0 a x)) (fills j (a + 1) v), burn-programs b a x, fills-programs (a + 1) v)
-
-  -- unerased: the cells that differ
-  pub looks-programs : (a : ℕ) (l v : List ℕ) → tallyOf (looks j a l v) .programs ≡ unlikeOf (j .row .width) l v
-  unfolding looks unlikeOf tallyOf
-  looks-programs a [] v = refl
-  looks-programs a (o ∷ l) [] = refl
-  looks-programs a (o ∷ l) (x ∷ v) =
-      let b = eqb (valueOf (j .row .width) o) x in
-      rw (tally-append (pick b [] (operated j 0 a x)) (looks j (a + 1) l v), burn-programs b a x, looks-programs (a + 1) l v, zero-add)
-
-  -- a sector
-  pub sector-tally : (a : ℕ) (l v : List ℕ) → tallyOf (sectorSent j a l v)
-      ≡ pick (rises (j .row .width) (map (valueOf (j .row .width)) l) v)
-      (plus (tally 1 0 (N j 1) (j .size) 1 (N j 1 * j .p)) (tallyOf (fills j a v)))
-      (plus (tally 0 0 0 (j .size) 0 0) (tallyOf (looks j a l v)))
-  unfolding sectorSent
-  sector-tally a l v = by (rises (j .row .width) (map (valueOf (j .row .width)) l) v)
-    where
-      by : (r : Bool) → tallyOf (scans j a (j .size) ++ pick r (operated j 1 a 0 ++ fills j a v) (looks j a l v))
-          ≡ pick r (plus (tally 1 0 (N j 1) (j .size) 1 (N j 1 * j .p)) (tallyOf (fills j a v))) (plus (tally 0 0 0 (j .size) 0 0) (tallyOf (looks j a l v)))
-      by true = simp (tally-append, scans-tally, erase-tally, zero-add)
-      by false = simp (tally-append, scans-tally)
 
 -- ---- the table
 -- no known part takes more than 28 µs for a program and 36,000 for a sector erase
@@ -313,7 +254,7 @@ unfolding sectorSize
 large w = split (λ (n : ℕ). 2048 ≤ n) (eqb w 8) 4096 2048 (λ _. omega arith) (λ _. omega arith)
 
 -- ---- the whole job
-module _ (j : Job) (image : List ℕ) (R : Right j image) (cells : List ℕ) (full : length cells ≡ rowOf (j .part) .cells) where
+module _ (j : Job) (image : List ℕ) (R : AcceptedJob j image) (cells : List ℕ) (full : length cells ≡ rowOf (j .part) .cells) where
   -- the formulas: the range's cells are read twice less those of erased sectors; not more erases than sectors, nor programs than cells
   pub job-fair : Fairly j (sentOf j image cells) (j .count + j .count) (j .count / j .size) (j .count)
   job-fair =
@@ -324,12 +265,8 @@ module _ (j : Job) (image : List ℕ) (R : Right j image) (cells : List ℕ) (fu
       (sectors-fair j n (j .first) (drop (j .first) cells) image l (omega (arith, R .count)))
       (omega (arith, mul-add n (j .size) (j .size))) (le-refl _) (omega arith)
 
-  -- the cells of erased sectors are cells of the range
-  pub erased-most : tallyOf (sentOf j image cells) .erases * j .size ≤ j .count
-  erased-most = omega (arith, mul-le-mul-right (j .size) (job-fair .erases), div-mul-le-self (j .count) (j .size))
-
   -- no more is spent than if every sector were erased and every cell programmed
-  pub time-most : tallyOf (sentOf j image cells) .time ≤ (j .count / j .size * N j 1 + j .count * N j 0) * j .p
+  pub time-most : tallyOf (sentOf j image cells) .time ≤ j .count / j .size * operationTime j 1 + j .count * operationTime j 0
   time-most = spent-most j _ _ _ _ _ job-fair
 
   -- a poll is at least 1 µs: no more polls than µs

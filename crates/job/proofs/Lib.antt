@@ -1,10 +1,9 @@
 pub mod Turns
-pub mod Within
+pub mod InJob
 pub mod Loop
-pub mod Tags
 pub mod Rest
 pub mod Operates
-pub mod Right
+pub mod AcceptedJob
 pub mod Left
 pub mod Clears
 pub mod Sectors

@@ -16,12 +16,12 @@ use Rattle.job.specs.declared.loader.Turn.{Turn}
 use Rattle.job.specs.declared.loader.Turn.the-variants.{Play, Stop}
 use Rattle.job.specs.declared.run.Tally.{Tally}
 use Rattle.job.specs.declared.run.Held.{Held}
-use Rattle.job.specs.Loader.{Turned, turned, firstOf, turnOf}
-use Rattle.job.specs.Kept.{Counts}
+use Rattle.job.specs.Loader.{Turned, turned, nextSector, turnOf}
+use Rattle.job.specs.Fits.{CountsFit}
 use Rattle.job.specs.Run.{World, world, noneSent, countedOf, sendOf, runOf, runFrom, stopNumber, stopOf, stopFrom, ended}
 
 -- ---- counts
-pub counts-up : (t : Tally) (m n : ℕ) → m ≤ n → Counts t m → Counts t n
+pub counts-up : (t : Tally) (m n : ℕ) → m ≤ n → CountsFit t m → CountsFit t n
 counts-up t m n h w =
     record {
       erases = omega (arith, w .erases);
@@ -35,20 +35,20 @@ counts-up t m n h w =
 up : {m : ℕ} → m ≤ m + 1
 up {m} = omega arith
 
-module _ (t : Tally) (n e : ℕ) (w : Counts t n) (short : e ≤ 4294967295) where
+module _ (t : Tally) (n e : ℕ) (w : CountsFit t n) (short : e ≤ 4294967295) where
   -- counts that are each at most one more
   more : (t′ : Tally) → t′ .erases ≤ t .erases + 1 → t′ .programs ≤ t .programs + 1 → t′ .polls ≤ t .polls + 1 → t′ .scans ≤ t .scans + 1 → t′ .confirms ≤ t .confirms + 1
-      → t′ .time ≡ t .time + e → Counts t′ (n + 1)
+      → t′ .time ≡ t .time + e → CountsFit t′ (n + 1)
   more t′ a b c d f g =
       counts (omega (arith, w .erases)) (omega (arith, w .programs)) (omega (arith, w .polls)) (omega (arith, w .scans)) (omega (arith, w .confirms)) (omega (arith, w .time))
     where
-      counts : t′ .erases ≤ n + 1 → t′ .programs ≤ n + 1 → t′ .polls ≤ n + 1 → t′ .scans ≤ n + 1 → t′ .confirms ≤ n + 1 → t′ .time ≤ (n + 1) * 4294967295 → Counts t′ (n + 1)
+      counts : t′ .erases ≤ n + 1 → t′ .programs ≤ n + 1 → t′ .polls ≤ n + 1 → t′ .scans ≤ n + 1 → t′ .confirms ≤ n + 1 → t′ .time ≤ (n + 1) * 4294967295 → CountsFit t′ (n + 1)
       counts a b c d f g = record { erases = a; programs = b; polls = c; scans = d; confirms = f; time = g }
 
-  pub counted-counts : (p : Purpose) → Counts (countedOf t p e) (n + 1)
+  pub counted-counts : (p : Purpose) → CountsFit (countedOf t p e) (n + 1)
   counted-counts Scan = more _ up up up (le-refl _) up refl
   counted-counts Lead = more _ up up up up up refl
-  counted-counts (Begin c) = split (λ (t : Tally). Counts t (n + 1)) (eqb c 0) _ _ (λ _. more _ up (le-refl _) up up up refl) (λ _. more _ (le-refl _) up up up up refl)
+  counted-counts (Begin c) = split (λ (t : Tally). CountsFit t (n + 1)) (eqb c 0) _ _ (λ _. more _ up (le-refl _) up up up refl) (λ _. more _ (le-refl _) up up up up refl)
   counted-counts Poll = more _ up up (le-refl _) up up refl
   counted-counts Confirm = more _ up up up up (le-refl _) refl
 
@@ -76,8 +76,8 @@ handed P cells h n e = (ap (λ (e : End). ended (e .place .held) (e .number)) e,
 
 module _ (j : Job) (image : List ℕ) where
   -- nothing sent, the first sector's first read
-  pub starts : (k : ℕ) (t : Turn) (cells : List ℕ) (h : Held) → h ≡ noneSent → t ≡ firstOf j 0
-      → (h .sent ≤ k) × (Counts (h .tally) (h .sent) × (endOf j image (k - h .sent) (turned (replicate 4096 0) t) (world cells h) ≡ endFrom j image cells k))
+  pub starts : (k : ℕ) (t : Turn) (cells : List ℕ) (h : Held) → h ≡ noneSent → t ≡ nextSector j 0
+      → (h .sent ≤ k) × (CountsFit (h .tally) (h .sent) × (endOf j image (k - h .sent) (turned (replicate 4096 0) t) (world cells h) ≡ endFrom j image cells k))
   starts k t cells h e f =
       let z : k - 0 ≡ k = omega arith in
       rw (e, f) (zero-le, (record { erases = zero-le; programs = zero-le; polls = zero-le; scans = zero-le; confirms = zero-le; time = zero-le }, rw z))
@@ -97,14 +97,14 @@ module _ (j : Job) (image : List ℕ) where
   pub turns : (k : ℕ) (seen seen′ : List ℕ) (t t′ : Turn) (l : Loader) (p : Purpose) (c : Cycle) (cells cells′ : List ℕ) (h h′ : Held) (P : End) → h .sent < k → t ≡ Play l p c
       → h′ ≡ sendOf (j .part) (world cells h) p c .held → cells′ ≡ sendOf (j .part) (world cells h) p c .cells
       → t′ ≡ turnOf j image seen l (h′ .reply) .turn → seen′ ≡ turnOf j image seen l (h′ .reply) .seen
-      → c .elapsed ≤ 4294967295 → Counts (h .tally) (h .sent) → endOf j image (k - h .sent) (turned seen t) (world cells h) ≡ P
-      → (h′ .sent ≤ k) × (Counts (h′ .tally) (h′ .sent) × (endOf j image (k - h′ .sent) (turned seen′ t′) (world cells′ h′) ≡ P))
+      → c .elapsed ≤ 4294967295 → CountsFit (h .tally) (h .sent) → endOf j image (k - h .sent) (turned seen t) (world cells h) ≡ P
+      → (h′ .sent ≤ k) × (CountsFit (h′ .tally) (h′ .sent) × (endOf j image (k - h′ .sent) (turned seen′ t′) (world cells′ h′) ≡ P))
   unfolding sendOf
   turns k seen seen′ t t′ l p c cells cells′ h h′ P lt e qh qc qt qs short w r =
       let s : h′ .sent ≡ h .sent + 1 = ap (λ (h : Held). h .sent) qh in
       let y : h′ .tally ≡ countedOf (h .tally) p (c .elapsed) = ap (λ (h : Held). h .tally) qh in
       let z : k - h′ .sent ≡ k - (h .sent + 1) = ap (λ (n : ℕ). k - n) s in
-      let n : Counts (h′ .tally) (h′ .sent) = rw (y, s) (counted-counts (h .tally) (h .sent) (c .elapsed) w short p) in
+      let n : CountsFit (h′ .tally) (h′ .sent) = rw (y, s) (counted-counts (h .tally) (h .sent) (c .elapsed) w short p) in
       (omega arith, (n, rw z (again k (h .sent) seen seen′ t t′ l p c cells cells′ h h′ P lt e qh qc qt qs r)))
 
   -- the loader has stopped

@@ -9,11 +9,11 @@ use Rattle.parts.specs.Table.{rowOf}
 use Rattle.job.specs.declared.loader.Job.{Job}
 use Rattle.job.specs.Run.{world, noneSent, playOf, runFrom, stopFrom}
 use Rattle.job.specs.Sent.{sentOf}
-use Rattle.job.proofs.Right.{Right}
+use Rattle.job.proofs.AcceptedJob.{AcceptedJob}
 use Rattle.job.proofs.Rest.{Rest}
 use Rattle.job.proofs.Sectors.{sectors}
 
-module _ (j : Job) (image : List ℕ) (R : Right j image) (cells : List ℕ) (whole : length cells ≡ rowOf (j .part) .cells) (some : 0 < j .size) (most : j .size ≤ 4096) (k : ℕ) where
+module _ (j : Job) (image : List ℕ) (R : AcceptedJob j image) (cells : List ℕ) (whole : length cells ≡ rowOf (j .part) .cells) (some : 0 < j .size) (most : j .size ≤ 4096) (k : ℕ) where
   both : (runFrom j image cells k ≡ playOf (j .part) (world cells noneSent) (take k (sentOf j image cells))) × (stopFrom j image cells k ≡ 0)
   unfolding Rest
   both =

@@ -19,24 +19,26 @@ use Rattle.parts.specs.declared.table.Row.{Row}
 use Rattle.chip.specs.declared.cycle.Action.the-variants.{Read}
 use Rattle.chip.specs.declared.cycle.Cycle.{Cycle}
 use Rattle.chip.specs.Device.{freshCore, freshDevice}
-use Rattle.chip.specs.Cycle.{Outcome, outcome, cycleOf}
+use Rattle.chip.specs.Cycle.{cycle, Outcome, outcome, cycleOf}
 use Rattle.chip.proofs.Cases.{read-idle}
 use Rattle.chip.proofs.Idle.{fresh-core-idle, fresh-idle}
-use Rattle.driver.specs.declared.machine.Driver.{Driver}
-use Rattle.driver.specs.Machine.{stepOf}
 use Rattle.driver.specs.Talk.{completed}
 use Rattle.driver.proofs.Theorems.{program-shows, erase-shows}
 use Rattle.job.specs.declared.loader.Job.{Job}
 use Rattle.job.specs.declared.loader.Stage.{Stage}
-use Rattle.job.specs.declared.loader.Stage.the-variants.{Scanning, Erasing, Filling, Looking, Burning}
+use Rattle.job.specs.declared.loader.Stage.the-variants.{Scanning, Looking}
+use Rattle.job.specs.declared.loader.Task.{Task}
+use Rattle.job.specs.declared.loader.Task.the-variants.{Erasing, Filling, Burning}
 use Rattle.job.specs.declared.loader.Purpose.the-variants.{Scan}
 use Rattle.job.specs.declared.loader.Turn.the-variants.{Play, Stop}
-use Rattle.job.specs.Search.{rises, leadingOf}
-use Rattle.job.specs.Loader.{turned, loader, nobody, cycle, placeOf, readsCell, firstOf, lookOf, beginOf, nextMark, fillOf, burnOf, scannedOf, decideOf, afterwards, seenOf, stageOf, drivenOf, turnOf}
+use Rattle.job.specs.declared.search.Decision.{Decision}
+use Rattle.job.specs.declared.search.Decision.the-variants.{NoErase, SectorErase}
+use Rattle.job.specs.Search.{leadingOf}
+use Rattle.job.specs.Loader.{turned, loader, placeOf, readsCell, nextSector, lookOf, beginOf, nextMark, fillOf, burnOf, scannedOf, carryOut, decideOf, afterwards, turnOf}
 use Rattle.job.specs.Run.{Sent, World, sendOf}
-use Rattle.job.specs.Sent.{operated, scanRead, scans, fills, looks, sectorSent, sectorsSent}
-use Rattle.job.proofs.Within.{sector-in}
-use Rattle.job.proofs.Right.{Right, program-starts, erase-starts, fit-at}
+use Rattle.job.specs.Sent.{operated, scanRead, scans, fills, looks, carries, decidedOn, sectorSent, sectorsSent}
+use Rattle.job.proofs.InJob.{sector-in}
+use Rattle.job.proofs.AcceptedJob.{AcceptedJob, program-starts, erase-starts, fit-at}
 use Rattle.job.proofs.Turns.{part-length}
 use Rattle.job.proofs.Clears.{cleared}
 use Rattle.job.proofs.Left.{program-leaves, erase-length, erase-drop, erase-at}
@@ -51,7 +53,7 @@ map-suc f l i h = ap (map f) (take-suc l i 0 h) ∙ maps (take i l)
     maps [] = refl
     maps (x ∷ k) = ap (λ (m : List ℕ). f x ∷ m) (maps k)
 
-module _ (j : Job) (image : List ℕ) (R : Right j image) where
+module _ (j : Job) (image : List ℕ) (R : AcceptedJob j image) where
   abbrev r : Row
   r = rowOf (j .part)
 
@@ -102,18 +104,18 @@ module _ (j : Job) (image : List ℕ) (R : Right j image) where
         let n : i < length seen = omega (arith, s .0) in
         (length-set seen i v ∙ s .0, rw (add-one i) (take-suc-set seen i v n ∙ (ap₂ {A = List ℕ} {B = ℕ} {C = List ℕ} (λ l x. l ++ (x ∷ [])) (s .1) (e ∙ ap value (sym (getD-drop a cells i 0))) ∙ sym (map-suc value (drop a cells) i k))))
 
-    scans-turn : (i : ℕ) (seen : List ℕ) (v : ℕ) → i < j .size → turnOf j image seen (loader Scanning base i nobody) v ≡ turned (set seen i v) (scannedOf j image (set seen i v) base i)
+    scans-turn : (i : ℕ) (seen : List ℕ) (v : ℕ) → i < j .size → turnOf j image seen (loader Scanning base i) v ≡ turned (set seen i v) (scannedOf j image (set seen i v) base i)
     unfolding turnOf
-    scans-turn i seen v h = rw (sector-in j (loader Scanning base i nobody) inside h)
+    scans-turn i seen v h = rw (sector-in j (loader Scanning base i) inside h)
 
     -- a cell is read, and the stage's turn follows
     cell-step : (s : Stage) (i : ℕ) (seen : List ℕ) (w : World) (L : List Sent) → i < j .size → Ready w
-        → ((w′ : World) → Read-on w (a + i) w′ → Rest j image (turnOf j image seen (loader s base i nobody) (w′ .held .reply)) w′ L)
+        → ((w′ : World) → Read-on w (a + i) w′ → Rest j image (turnOf j image seen (loader s base i) (w′ .held .reply)) w′ L)
         → Rest j image (turned seen (readsCell j s base i)) w (scanRead j (a + i) ∷ L)
     cell-step s i seen w L h g k =
         let q : placeOf j base i ≡ a + i = omega arith in
-        rest-is j image (turned seen (readsCell j s base i)) _ w _ _ (ap (λ (n : ℕ). turned seen (Play (loader s base i nobody) Scan (reading n))) q) refl
-        (rest-more j image seen (loader s base i nobody) Scan (reading (a + i)) w L (k (sendOf (j .part) w Scan (reading (a + i))) (reads-on w (a + i) g (there i h))))
+        rest-is j image (turned seen (readsCell j s base i)) _ w _ _ (ap (λ (n : ℕ). turned seen (Play (loader s base i) Scan (reading n))) q) refl
+        (rest-more j image seen (loader s base i) Scan (reading (a + i)) w L (k (sendOf (j .part) w Scan (reading (a + i))) (reads-on w (a + i) g (there i h))))
 
     -- the scan, then the decision
     abbrev Decides : List ℕ → List Sent → Type 0
@@ -140,17 +142,16 @@ module _ (j : Job) (image : List ℕ) (R : Right j image) where
 
     -- ---- what follows the sector
     abbrev Next : List ℕ → List Sent → Type 0
-    Next D L = (seen : List ℕ) (w : World) → length seen ≡ 4096 → Ready w → drop (a + j .size) (w .cells) ≡ D → Rest j image (turned seen (firstOf j (base + j .size))) w L
+    Next D L = (seen : List ℕ) (w : World) → length seen ≡ 4096 → Ready w → drop (a + j .size) (w .cells) ≡ D → Rest j image (turned seen (nextSector j (base + j .size))) w L
 
     -- ---- a program of the image's value at i, where no bit has to rise
     abbrev imageAt : ℕ → ℕ
     imageAt i = getD image (base + i) 0
 
-    programs : (s : Stage) (drives : (seen : List ℕ) (b i : ℕ) (d : Driver) (v : ℕ) → (stageOf j image seen s b i d v ≡ drivenOf j image s b i (stepOf d v)) × (seenOf s seen i v ≡ seen))
-        (i : ℕ) (seen : List ℕ) (w : World) (L : List Sent) → i < j .size → Ready w → bitAnd (value (getD (w .cells) (a + i) 0)) (imageAt i) ≡ imageAt i
-        → ((w′ : World) → Ready w′ → w′ .cells ≡ set (w .cells) (a + i) (bitAnd (getD (w .cells) (a + i) 0) (imageAt i)) → Rest j image (turned seen (afterwards j image s base i)) w′ L)
-        → Rest j image (turned seen (beginOf j s base i 0 (imageAt i))) w (operated j 0 (a + i) (imageAt i) ++ L)
-    programs s drives i seen w L h g clears k =
+    programs : (t : Task) (i : ℕ) (seen : List ℕ) (w : World) (L : List Sent) → i < j .size → Ready w → bitAnd (value (getD (w .cells) (a + i) 0)) (imageAt i) ≡ imageAt i
+        → ((w′ : World) → Ready w′ → w′ .cells ≡ set (w .cells) (a + i) (bitAnd (getD (w .cells) (a + i) 0) (imageAt i)) → Rest j image (turned seen (afterwards j image t base i)) w′ L)
+        → Rest j image (turned seen (beginOf j t base i 0 (imageAt i))) w (operated j 0 (a + i) (imageAt i) ++ L)
+    programs task i seen w L h g clears k =
         let q : a + i ≡ placeOf j base i = omega arith in
         let at = placeOf j base i in
         let t : at < r .cells = omega (arith, there i h) in
@@ -160,7 +161,7 @@ module _ (j : Job) (image : List ℕ) (R : Right j image) where
         let shown = program-shows (j .part) 0 at (imageAt i) (j .p) (j .wp) (w .cells) (w .held .device) accepted (g .whole) (rw (g .rest) fresh-idle) heeded refl in
         let same : bitAnd (valueOf (r .width) (getD (w .cells) at 0)) (imageAt i) ≡ imageAt i = rw (R .row, q) at clears in
         rest-is j image _ _ w _ (operated j 0 at (imageAt i) ++ L) refl (ap (λ (n : ℕ). operated j 0 n (imageAt i) ++ L) q)
-        (operates j image (R .row) s drives base i inside h seen 0 (imageAt i) (omega arith) accepted heeded w (g .rest) (g .whole) (shown ∙ same) L
+        (operates j image (R .row) task base i inside h seen 0 (imageAt i) (omega arith) accepted heeded w (g .rest) (g .whole) (shown ∙ same) L
         (λ w′ ec ed. let e = ec ∙ program-leaves r at (imageAt i) (w .cells) t′ in
         k w′ (record { rest = ed; whole = ap length e ∙ (length-set (w .cells) at (bitAnd (getD (w .cells) at 0) (imageAt i)) ∙ g .whole) })
         (e ∙ ap (λ (n : ℕ). set (w .cells) n (bitAnd (getD (w .cells) n 0) (imageAt i))) (sym q))))
@@ -215,7 +216,7 @@ module _ (j : Job) (image : List ℕ) (R : Right j image) where
       unfolding fillOf
       fill-here b = rw (mark-here b, lt-ltb i (j .size) (omega arith))
 
-    fill-end : (i : ℕ) → i ≡ j .size → fillOf j image base i ≡ firstOf j (base + j .size)
+    fill-end : (i : ℕ) → i ≡ j .size → fillOf j image base i ≡ nextSector j (base + j .size)
     unfolding fillOf
     fill-end i e = rw (mark-end i e, le-ltb i (j .size) (omega arith))
 
@@ -244,7 +245,7 @@ module _ (j : Job) (image : List ℕ) (R : Right j image) where
         by false t =
             rest-is j image _ (turned seen (beginOf j Filling base i 0 (imageAt i))) w _ (operated j 0 (a + i) (imageAt i) ++ (rest ++ L)) (ap (turned seen) (fill-here m i e (eqb-false _ _ t)))
             (ap (λ (l : List Sent). l ++ L) (listed ∙ ap (λ (b : Bool). pick b [] (operated j 0 (a + i) (imageAt i)) ++ rest) t) ∙ append-assoc (operated j 0 (a + i) (imageAt i)) rest L)
-            (programs Filling (λ _ _ _ _ _. (refl, refl)) i seen w (rest ++ L) k g (rw (b i (le-refl i) k) (blank-clears i k))
+            (programs Filling i seen w (rest ++ L) k g (rw (b i (le-refl i) k) (blank-clears i k))
             (λ w′ g′ ec. ih seen w′ D L (omega arith) n g′
             (λ q le lt. ap (λ (l : List ℕ). value (getD l (a + q) 0)) ec ∙ (ap value (later-cells i q (w .cells) _ (omega arith)) ∙ b q (omega arith) lt))
             (ap (drop (a + j .size)) ec ∙ (beyond i (w .cells) _ k ∙ d)) h))
@@ -252,16 +253,16 @@ module _ (j : Job) (image : List ℕ) (R : Right j image) where
     filling : (m i : ℕ) → Fills m i
     unfolding fills
     filling zero i = λ seen w D L e n g b d h.
-        rest-is j image _ (turned seen (firstOf j (base + j .size))) w _ L (ap (turned seen) (fill-end i (omega arith))) refl (h seen w n g d)
+        rest-is j image _ (turned seen (nextSector j (base + j .size))) w _ L (ap (turned seen) (fill-end i (omega arith))) refl (h seen w n g d)
     filling (suc m) i = fill-more m i (filling m (i + 1))
 
     -- ---- an unerased sector
     abbrev Clears : ℕ → List ℕ → Type 0
     Clears i cells = (k : ℕ) → i ≤ k → k < j .size → bitAnd (value (getD cells (a + k) 0)) (imageAt k) ≡ imageAt k
 
-    looks-turn : (i : ℕ) (seen : List ℕ) (v : ℕ) → i < j .size → turnOf j image seen (loader Looking base i nobody) v ≡ turned seen (burnOf j image base i v)
+    looks-turn : (i : ℕ) (seen : List ℕ) (v : ℕ) → i < j .size → turnOf j image seen (loader Looking base i) v ≡ turned seen (burnOf j image base i v)
     unfolding turnOf
-    looks-turn i seen v h = rw (sector-in j (loader Looking base i nobody) inside h)
+    looks-turn i seen v h = rw (sector-in j (loader Looking base i) inside h)
 
     cells-more : (m i : ℕ) (cells : List ℕ) → i + suc m ≡ j .size → length cells ≡ r .cells → take (suc m) (drop (a + i) cells) ≡ getD cells (a + i) 0 ∷ take m (drop (a + (i + 1)) cells)
     cells-more m i cells e whole =
@@ -276,7 +277,7 @@ module _ (j : Job) (image : List ℕ) (R : Right j image) where
     unfolding looks lookOf burnOf
     look-more m i ih seen w D L e n g b d h =
         rest-is j image _ (turned seen (readsCell j Looking base i)) w _ (scanRead j (a + i) ∷ ((pick (eqb (value o) x) [] (operated j 0 (a + i) x) ++ rest) ++ L))
-        (ap (λ (b : Bool). turned seen (pick b (readsCell j Looking base i) (firstOf j (base + j .size)))) (lt-ltb i (j .size) k)) (ap (λ (l : List Sent). l ++ L) listed)
+        (ap (λ (b : Bool). turned seen (pick b (readsCell j Looking base i) (nextSector j (base + j .size)))) (lt-ltb i (j .size) k)) (ap (λ (l : List Sent). l ++ L) listed)
         (cell-step Looking i seen w _ k g (λ w′ z. rest-is j image _ (turned seen (burnOf j image base i (value o))) w′ _ _ (looks-turn i seen (w′ .held .reply) k ∙ ap (λ (v : ℕ). turned seen (burnOf j image base i v)) (z .reply)) refl
         (by w′ z (eqb (value o) x) refl)))
       where
@@ -308,7 +309,7 @@ module _ (j : Job) (image : List ℕ) (R : Right j image) where
         by w′ z false t =
             rest-is j image _ (turned seen (beginOf j Burning base i 0 x)) w′ _ (operated j 0 (a + i) x ++ (rest ++ L)) (ap (λ (b : Bool). turned seen (pick b (lookOf j base (i + 1)) (beginOf j Burning base i 0 x))) t)
             (ap (λ (b : Bool). (pick b [] (operated j 0 (a + i) x) ++ rest) ++ L) t ∙ append-assoc (operated j 0 (a + i) x) rest L)
-            (programs Burning (λ _ _ _ _ _. (refl, refl)) i seen w′ (rest ++ L) k (z .ready) (ap (λ (l : List ℕ). bitAnd (value (getD l (a + i) 0)) (imageAt i)) (z .cells) ∙ b i (le-refl i) k)
+            (programs Burning i seen w′ (rest ++ L) k (z .ready) (ap (λ (l : List ℕ). bitAnd (value (getD l (a + i) 0)) (imageAt i)) (z .cells) ∙ b i (le-refl i) k)
             (λ w″ g″ ec. let v = bitAnd (getD (w′ .cells) (a + i) 0) x in
             let cs : w″ .cells ≡ set (w .cells) (a + i) v = ec ∙ ap (λ (l : List ℕ). set l (a + i) v) (z .cells) in
             rest-is j image _ _ w″ _ _ refl (ahead w″ (ap (drop (a + (i + 1))) cs ∙ drop-set-lt (a + (i + 1)) (w .cells) (a + i) v (omega arith)))
@@ -319,18 +320,26 @@ module _ (j : Job) (image : List ℕ) (R : Right j image) where
     looking : (m i : ℕ) → Looks m i
     unfolding looks lookOf
     looking zero i = λ seen w D L e n g b d h.
-        rest-is j image _ (turned seen (firstOf j (base + j .size))) w _ L (ap (λ (b : Bool). turned seen (pick b (readsCell j Looking base i) (firstOf j (base + j .size)))) (le-ltb i (j .size) (omega arith))) refl (h seen w n g d)
+        rest-is j image _ (turned seen (nextSector j (base + j .size))) w _ L (ap (λ (b : Bool). turned seen (pick b (readsCell j Looking base i) (nextSector j (base + j .size)))) (le-ltb i (j .size) (omega arith))) refl (h seen w n g d)
     looking (suc m) i = look-more m i (looking m (i + 1))
 
     -- ---- the decision
-    -- with no rising bit, every cell only has to lose bits
-    clear-all : (cells : List ℕ) → length cells ≡ r .cells → rises (j .row .width) (map value (take (j .size) (drop a cells))) (take (j .size) (drop base image)) ≡ false → Clears 0 cells
+    -- the sector's image
+    abbrev v : List ℕ
+    v = take (j .size) (drop base image)
+
+    -- the cells of the sector
+    abbrev held : List ℕ → List ℕ
+    held cells = take (j .size) (drop a cells)
+
+    -- unerased, every cell only has to lose bits
+    clear-all : (cells : List ℕ) → length cells ≡ r .cells → decidedOn j (held cells) v ≡ NoErase → Clears 0 cells
     clear-all cells whole e = λ k le lt.
-        let ln : length (take (j .size) (drop a cells)) ≡ j .size = part-length cells a (j .size) (omega (arith, R .range)) in
-        let lm : length (take (j .size) (drop base image)) ≡ j .size = part-length image base (j .size) (omega (arith, R .count)) in
-        let o : getD (take (j .size) (drop a cells)) k 0 ≡ getD cells (a + k) 0 = getD-take (j .size) (drop a cells) k 0 lt ∙ getD-drop a cells k 0 in
-        let x : getD (take (j .size) (drop base image)) k 0 ≡ imageAt k = getD-take (j .size) (drop base image) k 0 lt ∙ getD-drop base image k 0 in
-        rw (o, x) at (cleared (j .row .width) (take (j .size) (drop a cells)) (take (j .size) (drop base image)) k e (rw ln lt) (rw lm lt) (rw x (fits-at k lt)))
+        let ln : length (held cells) ≡ j .size = part-length cells a (j .size) (omega (arith, R .range)) in
+        let lm : length v ≡ j .size = part-length image base (j .size) (omega (arith, R .count)) in
+        let o : getD (held cells) k 0 ≡ getD cells (a + k) 0 = getD-take (j .size) (drop a cells) k 0 lt ∙ getD-drop a cells k 0 in
+        let x : getD v k 0 ≡ imageAt k = getD-take (j .size) (drop base image) k 0 lt ∙ getD-drop base image k 0 in
+        rw (o, x) at (cleared (j .row .width) (held cells) v k e (rw ln lt) (rw lm lt) (rw x (fits-at k lt)))
 
     module _ (multiple : base % j .size ≡ 0) where
       aligned : a % sectorSize (r .width) ≡ 0
@@ -338,7 +347,7 @@ module _ (j : Job) (image : List ℕ) (R : Right j image) where
 
       -- an erase, then the sector is filled
       erases : (seen : List ℕ) (w : World) (D : List ℕ) (L : List Sent) → length seen ≡ 4096 → 0 < j .size → Ready w → drop (a + j .size) (w .cells) ≡ D → Next D L
-          → Rest j image (turned seen (beginOf j Erasing base 0 1 0)) w (operated j 1 a 0 ++ (fills j a (take (j .size) (drop base image)) ++ L))
+          → Rest j image (turned seen (beginOf j Erasing base 0 1 0)) w (operated j 1 a 0 ++ (fills j a v ++ L))
       erases seen w D L n some g d h =
           let q : a ≡ placeOf j base 0 = omega arith in
           let at = placeOf j base 0 in
@@ -350,7 +359,7 @@ module _ (j : Job) (image : List ℕ) (R : Right j image) where
           let z : a + 0 ≡ a = omega arith in
           let y : base + 0 ≡ base = omega arith in
           rest-is j image _ _ w _ (operated j 1 at 0 ++ (fills j (a + 0) (take (j .size) (drop (base + 0) image)) ++ L)) refl (rw (z, y))
-          (operates j image (R .row) Erasing (λ _ _ _ _ _. (refl, refl)) base 0 inside some seen 1 0 (omega arith) accepted heeded w (g .rest) (g .whole) shown _
+          (operates j image (R .row) Erasing base 0 inside some seen 1 0 (omega arith) accepted heeded w (g .rest) (g .whole) shown _
           (λ w′ ec ed. let c : w′ .cells ≡ completed r 1 a 0 (w .cells) = ec ∙ ap (λ (n : ℕ). completed r 1 n 0 (w .cells)) (sym q) in
           filling (j .size) 0 seen w′ D L (omega arith) n
           (record { rest = ed; whole = ap length c ∙ (erase-length r a aligned (w .cells) room ∙ g .whole) })
@@ -358,36 +367,29 @@ module _ (j : Job) (image : List ℕ) (R : Right j image) where
           (ap (drop (a + j .size)) c ∙ (rw (R .size) (erase-drop r a aligned (w .cells) room) ∙ d)) h))
 
       -- the decision, from the values seen: erase and fill, or look again
-      deciding : (cells D : List ℕ) (L : List Sent) → 0 < j .size → drop (a + j .size) cells ≡ D → Next D L
-          → Decides cells
-          (pick (rises (j .row .width) (map value (take (j .size) (drop a cells))) (take (j .size) (drop base image))) (operated j 1 a 0 ++ fills j a (take (j .size) (drop base image)))
-          (looks j a (take (j .size) (drop a cells)) (take (j .size) (drop base image))) ++ L)
+      deciding : (cells D : List ℕ) (L : List Sent) → 0 < j .size → drop (a + j .size) cells ≡ D → Next D L → Decides cells (carries j a (held cells) v (decidedOn j (held cells) v) ++ L)
       unfolding decideOf
-      deciding cells D L some d h seen w g c s = rw (s .1) (by (rises (j .row .width) (map value (take (j .size) (drop a cells))) (take (j .size) (drop base image))) refl)
+      deciding cells D L some d h seen w g c s = rw (s .1) (by (decidedOn j (held cells) v) refl)
         where
           d′ : drop (a + j .size) (w .cells) ≡ D
           d′ = ap (drop (a + j .size)) c ∙ d
 
-          by : (t : Bool) → rises (j .row .width) (map value (take (j .size) (drop a cells))) (take (j .size) (drop base image)) ≡ t
-              → Rest j image (turned seen (pick t (beginOf j Erasing base 0 1 0) (lookOf j base 0))) w
-              (pick t (operated j 1 a 0 ++ fills j a (take (j .size) (drop base image))) (looks j a (take (j .size) (drop a cells)) (take (j .size) (drop base image))) ++ L)
-          by true t =
-              rest-is j image _ _ w _ (operated j 1 a 0 ++ (fills j a (take (j .size) (drop base image)) ++ L)) refl (append-assoc (operated j 1 a 0) (fills j a (take (j .size) (drop base image))) L)
-              (erases seen w D L (s .0) some g d′ h)
-          by false t =
+          by : (t : Decision) → decidedOn j (held cells) v ≡ t → Rest j image (turned seen (carryOut j base t)) w (carries j a (held cells) v t ++ L)
+          by NoErase t =
               let z : a + 0 ≡ a = omega arith in
               let y : base + 0 ≡ base = omega arith in
               rest-is j image _ _ w _ _ refl (rw (← c) (sym (rw (z, y))))
               (looking (j .size) 0 seen w D L (omega arith) (s .0) g (clear-all (w .cells) (g .whole) (rw (← c) at t)) d′ h)
+          by SectorErase t =
+              rest-is j image _ _ w _ (operated j 1 a 0 ++ (fills j a v ++ L)) refl (append-assoc (operated j 1 a 0) (fills j a v) L) (erases seen w D L (s .0) some g d′ h)
 
       -- the sector
       pub sector : (seen : List ℕ) (w : World) (D : List ℕ) (L : List Sent) → length seen ≡ 4096 → 0 < j .size → j .size ≤ 4096 → Ready w → drop (a + j .size) (w .cells) ≡ D → Next D L
-          → Rest j image (turned seen (firstOf j base)) w (sectorSent j a (take (j .size) (drop a (w .cells))) (take (j .size) (drop base image)) ++ L)
-      unfolding firstOf sectorSent
+          → Rest j image (turned seen (nextSector j base)) w (sectorSent j a (held (w .cells)) v ++ L)
+      unfolding nextSector sectorSent
       sector seen w D L n some most g d h =
-          let l = take (j .size) (drop a (w .cells)) in
-          let v = take (j .size) (drop base image) in
-          let X = pick (rises (j .row .width) (map value l) v) (operated j 1 a 0 ++ fills j a v) (looks j a l v) in
+          let l = held (w .cells) in
+          let X = carries j a l v (decidedOn j l v) in
           let z : a + 0 ≡ a = omega arith in
           let m : suc (j .size - 1) ≡ j .size = omega arith in
           rest-is j image _ (turned seen (readsCell j Scanning base 0)) w _ (scans j (a + 0) (suc (j .size - 1)) ++ (X ++ L))
@@ -398,8 +400,8 @@ module _ (j : Job) (image : List ℕ) (R : Right j image) where
   -- ---- all sectors
   module _ (some : 0 < j .size) (most : j .size ≤ 4096) where
     pub sectors : (n base : ℕ) (seen : List ℕ) (w : World) → base + n * j .size ≡ j .count → base % j .size ≡ 0 → length seen ≡ 4096 → Ready w
-        → Rest j image (turned seen (firstOf j base)) w (sectorsSent j (j .first + base) n (drop (j .first + base) (w .cells)) (drop base image))
-    unfolding firstOf sectorsSent
+        → Rest j image (turned seen (nextSector j base)) w (sectorsSent j (j .first + base) n (drop (j .first + base) (w .cells)) (drop base image))
+    unfolding nextSector sectorsSent
     sectors zero base seen w e m l g =
         rest-is j image _ (turned seen (Stop 0)) w _ [] (ap (λ (b : Bool). turned seen (pick b (readsCell j Scanning base 0) (Stop 0))) (le-ltb base (j .count) (omega (arith, zero-mul (j .size))))) refl (rest-none j image seen w)
     sectors (suc n) base seen w e m l g =

@@ -2,8 +2,7 @@
 use mathlib.Core.Path.{_≡_, refl, sym, _∙_}
 use mathlib.Core.Bool.{Bool, true, false}
 use mathlib.Core.List.{List, [], _∷_}
-use Prim.Native.Nat.{ℕ, zero, suc, zero-le, _+_, _-_, _/_, _%_, _<_, _≤_}
-use native.Mathlib.Nat.{not-suc-le-zero}
+use Prim.Native.Nat.{ℕ, suc, zero-le, _+_, _-_, _/_, _%_, _<_, _≤_}
 use native.Mathlib.Numerals.{add-one}
 use native.Mathlib.Omega.{arith}
 use borrow.Author.Tests.{eq-eqb, ne-eqb, leb-true, leb-false, le-leb, lt-leb}
@@ -12,46 +11,47 @@ use lib.ListN.{length, getD, take, drop, drop-of-length-le, length-take, length-
 use Rattle.parts.proofs.Every.{split}
 use lib.Seq.{drop-cons}
 use Rattle.parts.specs.Width.{valueOf, fitsIn}
-use Rattle.job.specs.Search.{bitRises, rises, leadingOf}
+use Rattle.job.specs.declared.search.Rise.the-variants.{At, Nowhere}
+use Rattle.job.specs.Search.{riseIn, riseFrom, leadingOf}
 use Rattle.job.specs.Total.{totalOf}
 use Rattle.job.specs.Refusal.{fitAll}
 
--- ---- the bits of a cell
-less : (k : ℕ) → suc k - 1 ≡ k
-less k = omega arith
+-- ---- the bits of a cell, from bit b on
+pub bits-begin : (i w o n : ℕ) → riseIn i w 0 o n ≡ riseIn i (w - 0) 0 o n
+bits-begin i w o n = let z : w - 0 ≡ w = omega arith in rw z
 
-pub bit-hit : (k o n : ℕ) → 0 < k → o % 2 ≡ 0 → n % 2 ≡ 1 → bitRises k o n ≡ true
-unfolding bitRises
-bit-hit zero o n h p q = absurd (not-suc-le-zero h)
-bit-hit (suc k) o n h p q = simp (eq-eqb _ _ p, eq-eqb _ _ q)
+module _ (i w b o n : ℕ) (more : b < w) where
+  left : w - b ≡ suc (w - (b + 1))
+  left = omega arith
 
-pub bit-miss-old : (k o n : ℕ) → 0 < k → (o % 2 ≡ 0 → ⊥) → bitRises k o n ≡ bitRises (k - 1) (o / 2) (n / 2)
-unfolding bitRises
-bit-miss-old zero o n h p = absurd (not-suc-le-zero h)
-bit-miss-old (suc k) o n h p = rw (less k) (simp (ne-eqb _ _ p))
+  pub bit-hit : o % 2 ≡ 0 → n % 2 ≡ 1 → riseIn i (w - b) b o n ≡ At i b
+  unfolding riseIn
+  bit-hit p q = rw left (simp (eq-eqb _ _ p, eq-eqb _ _ q))
 
-pub bit-miss-new : (k o n : ℕ) → 0 < k → o % 2 ≡ 0 → (n % 2 ≡ 1 → ⊥) → bitRises k o n ≡ bitRises (k - 1) (o / 2) (n / 2)
-unfolding bitRises
-bit-miss-new zero o n h p q = absurd (not-suc-le-zero h)
-bit-miss-new (suc k) o n h p q = rw (less k) (simp (eq-eqb _ _ p, ne-eqb _ _ q))
+  pub bit-miss-old : (o % 2 ≡ 0 → ⊥) → riseIn i (w - b) b o n ≡ riseIn i (w - (b + 1)) (b + 1) (o / 2) (n / 2)
+  unfolding riseIn
+  bit-miss-old p = rw left (simp (ne-eqb _ _ p))
 
-pub bit-none : (k o n : ℕ) → k ≤ 0 → bitRises k o n ≡ false
-unfolding bitRises
-bit-none zero o n h = refl
-bit-none (suc k) o n h = absurd (not-suc-le-zero h)
+  pub bit-miss-new : o % 2 ≡ 0 → (n % 2 ≡ 1 → ⊥) → riseIn i (w - b) b o n ≡ riseIn i (w - (b + 1)) (b + 1) (o / 2) (n / 2)
+  unfolding riseIn
+  bit-miss-new p q = rw left (simp (eq-eqb _ _ p, ne-eqb _ _ q))
 
--- ---- the cells
+pub bit-none : (i w b o n : ℕ) → w ≤ b → riseIn i (w - b) b o n ≡ Nowhere
+unfolding riseIn
+bit-none i w b o n h = let z : w - b ≡ 0 = omega arith in rw z
+
+-- ---- the cells, from the i-th on
 module _ (w : ℕ) (os ns : List ℕ) (i : ℕ) where
-  pub rest-hit : i < length os → i < length ns → bitRises w (getD os i 0) (getD ns i 0) ≡ true → rises w (drop i os) (drop i ns) ≡ true
-  unfolding rises
-  rest-hit ho hn e = rw (drop-cons os i 0 ho, drop-cons ns i 0 hn) (simp e)
+  pub rest-hit : (b : ℕ) → i < length os → i < length ns → riseIn i w 0 (getD os i 0) (getD ns i 0) ≡ At i b → riseFrom w i (drop i os) (drop i ns) ≡ At i b
+  unfolding riseFrom
+  rest-hit b ho hn e = rw (drop-cons os i 0 ho, drop-cons ns i 0 hn) (simp e)
 
-  pub rest-miss : i < length os → i < length ns → bitRises w (getD os i 0) (getD ns i 0) ≡ false → rises w (drop i os) (drop i ns) ≡ rises w (drop (i + 1) os) (drop (i + 1) ns)
-  unfolding rises
+  pub rest-miss : i < length os → i < length ns → riseIn i w 0 (getD os i 0) (getD ns i 0) ≡ Nowhere → riseFrom w i (drop i os) (drop i ns) ≡ riseFrom w (i + 1) (drop (i + 1) os) (drop (i + 1) ns)
+  unfolding riseFrom
   rest-miss ho hn e = rw (drop-cons os i 0 ho, drop-cons ns i 0 hn) (simp (e, add-one))
 
-  pub rest-none : length os ≤ i → rises w (drop i os) (drop i ns) ≡ false
-  unfolding rises
+  pub rest-none : length os ≤ i → riseFrom w i (drop i os) (drop i ns) ≡ Nowhere
+  unfolding riseFrom
   rest-none h = rw (drop-of-length-le os h)
 
 -- ---- values at the front

@@ -4,10 +4,11 @@ use mathlib.Core.Bool.{Bool}
 use mathlib.Core.List.{List}
 use lib.Dec.{eqb, ltb}
 use lib.ListN.{length, take, drop}
+use Rattle.parts.specs.Names.{PROGRAM, SECTOR}
 use Rattle.parts.specs.Pick.{pick}
 use Rattle.parts.specs.Width.{sectorSize}
 use Rattle.parts.specs.Table.{rowOf}
-use Rattle.parts.specs.Time.{timeOf, pollsOf}
+use Rattle.parts.specs.Time.{timeOf}
 use Rattle.job.specs.declared.loader.Job.{Job}
 use Rattle.job.specs.declared.run.Tally.{Tally}
 use Rattle.job.specs.declared.run.Held.{Held}
@@ -17,6 +18,7 @@ use Rattle.job.specs.Total.{sumOf}
 use Rattle.job.specs.Refusal.{jobRefusal}
 use Rattle.job.specs.Run.{World, world, noLast, noneSent, playOf}
 use Rattle.job.specs.Sent.{sentOf}
+use Rattle.job.specs.Formulas.{operationTime}
 
 -- a job that was not refused
 abbrev pub jobOf : ℕ → ℕ → ℕ → Bool → ℕ → Job
@@ -24,9 +26,9 @@ jobOf part first count wp p =
     record { part = part; row = rowOf part; size = sectorSize (rowOf part .width); first = first; count = count; wp = wp; p = p }
 
 -- ---- the bill
--- the time of a full job: every sector erased and every cell programmed, each at N * p
+-- the time of a full job: every sector erased and every cell programmed
 unfoldable pub fullOf : Job → ℕ
-fullOf j = (j .count / j .size * pollsOf (j .row) 1 (j .p) + j .count * pollsOf (j .row) 0 (j .p)) * j .p
+fullOf j = j .count / j .size * operationTime j SECTOR + j .count * operationTime j PROGRAM
 
 -- spent is the µs of the cycles sent; saved what is left of the full job's time; last the number that the loader stopped with
 abbrev pub billOf : Job → Tally → ℕ → ℕ → Bill
@@ -103,9 +105,9 @@ abbrev pub firstFew : ℕ → ℕ
 firstFew k = pick (ltb 2147483648 k) 2147483648 k
 
 -- the numbers of a job that its full time needs
-pub record Timed (j : Job) : Type 0 where
+pub record FullTimeFits (j : Job) : Type 0 where
   pub some : 0 < j .size
   pub count : j .count ≤ 4194304
   pub p : j .p ≤ 1000
-  pub erase : timeOf (j .row) 1 ≤ 140000
-  pub program : timeOf (j .row) 0 ≤ 140000
+  pub erase : timeOf (j .row) SECTOR ≤ 140000
+  pub program : timeOf (j .row) PROGRAM ≤ 140000

@@ -2,10 +2,9 @@
 use Prim.Native.Nat.{ℕ, _+_, _*_, _≤_}
 use mathlib.Core.Path.{_≡_}
 use mathlib.Core.List.{List, [], _∷_}
-use lib.Dec.{eqb}
-use Rattle.parts.specs.Pick.{pick}
-use Rattle.parts.specs.Width.{valueOf, blankOf}
+use Rattle.parts.specs.Names.{PROGRAM, SECTOR}
 use Rattle.parts.specs.Time.{pollsOf}
+use Rattle.driver.specs.Machine.{confirmAfter}
 use Rattle.job.specs.declared.loader.Job.{Job}
 use Rattle.job.specs.declared.run.Tally.{Tally}
 use Rattle.job.specs.Run.{Sent, tally, countedOf}
@@ -25,30 +24,22 @@ unfoldable pub tallyOf : List Sent → Tally
 tallyOf [] = noTally
 tallyOf (s ∷ ss) = plus (countedOf noTally (s .purpose) (s .cycle .elapsed)) (tallyOf ss)
 
--- N of a job's command: 0 program, 1 sector erase
+-- N of a job's command
 abbrev pub N : Job → ℕ → ℕ
 N j command = pollsOf (j .row) command (j .p)
 
+-- the µs of an operation: N polls p apart, and the confirming read
+abbrev pub operationTime : Job → ℕ → ℕ
+operationTime j command = N j command * j .p + confirmAfter
+
 -- the bill's formulas, of t, the counts of n cycles: at most e erases and c programs;
 -- s cells to be read, of which those of an erased sector are read once less
-pub record Fair (j : Job) (t : Tally) (n s e c : ℕ) : Type 0 where
-  pub polls : t .polls ≡ t .erases * N j 1 + t .programs * N j 0
-  pub spent : t .time ≡ t .polls * j .p
+pub record FollowsFormulas (j : Job) (t : Tally) (n s e c : ℕ) : Type 0 where
+  pub polls : t .polls ≡ t .erases * N j SECTOR + t .programs * N j PROGRAM
+  pub spent : t .time ≡ t .polls * j .p + t .confirms * confirmAfter
   pub confirms : t .confirms ≡ t .erases + t .programs
   pub scans : t .scans + t .erases * j .size ≡ s
   pub erases : t .erases ≤ e
   pub programs : t .programs ≤ c
   -- six writes an erase, four a program
   pub cycles : n ≡ t .scans + t .polls + t .confirms + t .erases * 6 + t .programs * 4
-
--- ---- how many programs
--- values that are not blank
-unfoldable pub marksOf : ℕ → List ℕ → ℕ
-marksOf w [] = 0
-marksOf w (x ∷ v) = pick (eqb x (blankOf w)) 0 1 + marksOf w v
-
--- cells that differ from their values
-unfoldable pub unlikeOf : ℕ → List ℕ → List ℕ → ℕ
-unlikeOf w [] v = 0
-unlikeOf w (o ∷ l) [] = 0
-unlikeOf w (o ∷ l) (x ∷ v) = pick (eqb (valueOf w o) x) 0 1 + unlikeOf w l v

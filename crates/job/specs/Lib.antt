@@ -2,8 +2,8 @@ pub mod Search
 pub mod Total
 pub mod Refusal
 pub mod Loader
-pub mod Kept
+pub mod Fits
 pub mod Run
 pub mod Sent
-pub mod Bill
 pub mod Formulas
+pub mod Bill

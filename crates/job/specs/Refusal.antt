@@ -4,7 +4,8 @@ use mathlib.Core.Bool.{Bool, true, false}
 use mathlib.Core.List.{List, [], _∷_}
 use lib.Dec.{eqb, ltb, leb}
 use lib.ListN.{length}
-use Rattle.parts.specs.Pick.{pick}
+use Rattle.parts.specs.Names.{WRONG-CELLS, NOT-SECTORS, PAST-CELLS, WIDE-IMAGE, PROTECTED, BAD-INTERVAL}
+use Rattle.parts.specs.Pick.{pick, _when_, _unless_, _else_, _orElse_}
 use Rattle.parts.specs.Width.{fitsIn, sectorSize}
 use Rattle.parts.specs.Table.{rowOf, partRefusal}
 use Rattle.parts.specs.Span.{protectedOf}
@@ -25,23 +26,22 @@ meets s first count =
 
 -- 9: WP# low and the range holds a protected cell
 unfoldable pub protectionRefusal : Row → ℕ → ℕ → Bool → ℕ
-protectionRefusal r first count wp = pick wp 0 (pick (meets (protectedOf r) first count) 9 0)
+protectionRefusal r first count wp = 0 when wp else PROTECTED when meets (protectedOf r) first count else 0
 
 -- 6: first or count not a multiple of the sector; 7: first + count past the cells; 8: an image value that does not fit; 9
 unfoldable pub rangeRefusal : Row → ℕ → List ℕ → Bool → ℕ
 rangeRefusal r first image wp =
-    pick (ltb 0 (first % sectorSize (r .width))) 6
-    (pick (ltb 0 (length image % sectorSize (r .width))) 6
-    (pick (leb (first + length image) (r .cells))
-    (pick (fitAll (r .width) image) (protectionRefusal r first (length image) wp) 8)
-    7))
+    NOT-SECTORS when ltb 0 (first % sectorSize (r .width))
+    else NOT-SECTORS when ltb 0 (length image % sectorSize (r .width))
+    else PAST-CELLS unless leb (first + length image) (r .cells)
+    else WIDE-IMAGE unless fitAll (r .width) image
+    else protectionRefusal r first (length image) wp
 
 -- 1; 2: lent cells are not the part's number; 10: p is 0 or above 1,000; then 6, 7, 8, 9
 unfoldable pub jobRefusal : ℕ → ℕ → ℕ → List ℕ → Bool → ℕ → ℕ
 jobRefusal part lent first image wp p =
-    pick (ltb 0 (partRefusal part)) (partRefusal part)
-    (pick (eqb lent (rowOf part .cells))
-    (pick (eqb p 0) 10
-    (pick (ltb 1000 p) 10
-    (rangeRefusal (rowOf part) first image wp)))
-    2)
+    partRefusal part
+    orElse WRONG-CELLS unless eqb lent (rowOf part .cells)
+    else BAD-INTERVAL when eqb p 0
+    else BAD-INTERVAL when ltb 1000 p
+    else rangeRefusal (rowOf part) first image wp

@@ -4,6 +4,7 @@ use mathlib.Core.Bool.{Bool, false}
 use mathlib.Core.List.{List, [], _∷_}
 use lib.Dec.{eqb}
 use lib.ListN.{replicate}
+use Rattle.parts.specs.Names.{PROGRAM, NO-CYCLE, A-READ, A-WRITE}
 use Rattle.parts.specs.Pick.{pick}
 use Rattle.chip.specs.declared.cycle.Action.{Action}
 use Rattle.chip.specs.declared.cycle.Action.the-variants.{Read, Write, Idle, Cut}
@@ -19,7 +20,7 @@ use Rattle.job.specs.declared.run.Tally.{Tally}
 use Rattle.job.specs.declared.run.Last.{Last}
 use Rattle.job.specs.declared.run.Held.{Held}
 use Rattle.job.specs.declared.run.Ended.{Ended}
-use Rattle.job.specs.Loader.{Turned, turned, firstOf, turnOf}
+use Rattle.job.specs.Loader.{Turned, turned, nextSector, turnOf}
 
 -- a cycle and why it is sent
 pub record Sent : Type 0 where
@@ -42,10 +43,10 @@ world cells h = record { cells = cells; held = h }
 abbrev pub tally : ℕ → ℕ → ℕ → ℕ → ℕ → ℕ → Tally
 tally e p l s c t = record { erases = e; programs = p; polls = l; scans = s; confirms = c; time = t }
 
--- an operation counts when its last write is sent: 0 program, 1 sector erase
+-- an operation counts when its last write is sent
 abbrev pub begunOf : Tally → ℕ → ℕ → Tally
 begunOf t command e =
-    pick (eqb command 0)
+    pick (eqb command PROGRAM)
     (tally (t .erases) (t .programs + 1) (t .polls) (t .scans) (t .confirms) (t .time + e))
     (tally (t .erases + 1) (t .programs) (t .polls) (t .scans) (t .confirms) (t .time + e))
 
@@ -57,16 +58,16 @@ countedOf t (Begin c) e = begunOf t c e
 countedOf t Poll e = tally (t .erases) (t .programs) (t .polls + 1) (t .scans) (t .confirms) (t .time + e)
 countedOf t Confirm e = tally (t .erases) (t .programs) (t .polls) (t .scans) (t .confirms + 1) (t .time + e)
 
--- ---- the last cycle: kind 0 none, 1 read, 2 write
+-- ---- the last cycle, by its kind
 abbrev pub last : ℕ → ℕ → Bool → ℕ → ℕ → Last
 last k e wp a x = record { kind = k; elapsed = e; wp = wp; address = a; «data» = x }
 
 abbrev pub noLast : Last
-noLast = last 0 0 false 0 0
+noLast = last NO-CYCLE 0 false 0 0
 
 abbrev pub lastOf : ℕ → Bool → Action → Last
-lastOf e wp (Read a) = last 1 e wp a 0
-lastOf e wp (Write a x) = last 2 e wp a x
+lastOf e wp (Read a) = last A-READ e wp a 0
+lastOf e wp (Write a x) = last A-WRITE e wp a x
 lastOf e wp Idle = noLast
 lastOf e wp (Cut s) = noLast
 
@@ -124,8 +125,8 @@ ended h n = record { held = h; answer = n }
 
 -- a run from the start: nothing seen, nothing sent, the first sector's first read
 abbrev pub runFrom : Job → List ℕ → List ℕ → ℕ → World
-runFrom j image cells k = runOf j image k (turned (replicate 4096 0) (firstOf j 0)) (world cells noneSent)
+runFrom j image cells k = runOf j image k (turned (replicate 4096 0) (nextSector j 0)) (world cells noneSent)
 
 -- the number with which the loader stops in such a run
 abbrev pub stopFrom : Job → List ℕ → List ℕ → ℕ → ℕ
-stopFrom j image cells k = stopOf j image k (turned (replicate 4096 0) (firstOf j 0)) (world cells noneSent)
+stopFrom j image cells k = stopOf j image k (turned (replicate 4096 0) (nextSector j 0)) (world cells noneSent)

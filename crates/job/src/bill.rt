@@ -7,9 +7,12 @@ use crate::run::Tally;
 use crate::run::no_last;
 use crate::run::run;
 use crate::total::sum;
+use parts::names::PROGRAM;
+use parts::names::SECTOR;
 ghost use mathlib.Core.Path.{_≡_};
-ghost use Prim.Native.Nat.{_-_};
-ghost use Rattle.job.specs.Bill.{Timed, billOf, firstFew, fullOf, jobOf, loadOf, refusedBill, refusedReport, reportOf, reported};
+ghost use Prim.Native.Nat.{_-_, _≤_};
+ghost use Rattle.job.specs.Formulas.{operationTime};
+ghost use Rattle.job.specs.Bill.{FullTimeFits, billOf, firstFew, fullOf, jobOf, loadOf, refusedBill, refusedReport, reportOf, reported};
 
 // The bill: µs saved and spent, then counts, the sum, and 0 or the refusal.
 pub struct Bill {
@@ -111,15 +114,25 @@ fn write_report(e: Ended) -> Report
     }
 }
 
-// The time of a full job: every sector erased and every cell programmed, each at N * p.
+// The µs of an operation: N polls p apart, and the confirming read.
+fn operation_time(job: Job, command: u32) -> u64
+    requires { ⌜ FullTimeFits job ⌝ }
+    requires { ⌜ command ≤ 1 ⌝ }
+    ensures { λ r. ⌜ r ≡ operationTime job command ⌝ }
+{
+    let polls = parts::rounded_up(job.row.time(command), job.p);
+    polls as u64 * job.p as u64 + driver::CONFIRM_AFTER as u64
+}
+
+// The time of a full job: every sector erased and every cell programmed.
 fn full_time(job: Job) -> u64
-    requires { ⌜ Timed job ⌝ }
+    requires { ⌜ FullTimeFits job ⌝ }
     ensures { λ r. ⌜ r ≡ fullOf job ⌝ }
 {
-    let erase = parts::rounded_up(job.row.time(1), job.p);
-    let program = parts::rounded_up(job.row.time(0), job.p);
+    let erase = operation_time(job, SECTOR);
+    let program = operation_time(job, PROGRAM);
     let sectors = job.count / job.size;
-    (sectors as u64 * erase as u64 + job.count as u64 * program as u64) * job.p as u64
+    sectors as u64 * erase + job.count as u64 * program
 }
 
 // What is left of full once spent is taken away.
@@ -134,7 +147,7 @@ fn left_of(full: u64, spent: u64) -> u64
 
 // The bill of a job's counts and sum, and the number that the loader stopped with.
 fn write_bill(job: Job, t: Tally, sum: u16, answer: u32) -> Bill
-    requires { ⌜ Timed job ⌝ }
+    requires { ⌜ FullTimeFits job ⌝ }
     ensures { λ r. ⌜ r ≡ billOf job t sum answer ⌝ }
 {
     Bill {

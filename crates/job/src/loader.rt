@@ -1,6 +1,7 @@
 // The loader: a machine by value over replies. It never sees the cells: what it decides, it decides from what was read.
+use crate::search::Decision;
+use crate::search::decision_of;
 use crate::search::leading;
-use crate::search::must_rise;
 use chip::Action;
 use chip::Cycle;
 use driver::Driver;
@@ -8,15 +9,16 @@ use driver::Next;
 use driver::Phase;
 use driver::Step;
 use parts::Row;
+use parts::names::PROGRAM;
+use parts::names::SECTOR;
 ghost use mathlib.Core.Path.{_≡_};
 ghost use Prim.Native.Nat.{_+_, _≤_, _<_};
 ghost use lib.ListN.{length};
 ghost use lib.Dec.{eqb};
 ghost use mathlib.Core.Bool.{true};
 ghost use Rattle.parts.specs.Pick.{pick};
-ghost use Rattle.driver.specs.Machine.{inRange, stepOf};
-ghost use Rattle.job.specs.Loader.{afterwards, beginOf, burnOf, decideOf, drivenOf, fillOf, firstOf, firstStep, goesOn, lookOf, nobody, polling, purposeOf, readsCell, scannedOf, seenOf, stageOf, turnOf, within};
-ghost use Rattle.job.specs.Kept.{Kept};
+ghost use Rattle.job.specs.Loader.{afterwards, beginOf, burnOf, carryOut, decideOf, drivenOf, fillOf, firstStep, goesOn, inJob, lookOf, nextSector, polling, purposeOf, readsCell, scannedOf, seenOf, stageOf, turnOf};
+ghost use Rattle.job.specs.Fits.{JobFits};
 
 // A job that was not refused: its part and row, the first address, the number of image values, WP# and p.
 pub struct Job {
@@ -29,21 +31,25 @@ pub struct Job {
     pub p: u32,
 }
 
-// What is done in a sector: it is read; erased, then filled; or looked at again, and a cell burnt where it differs.
-pub enum Stage {
-    Scanning,
+// What an operation is for: a sector is erased, then filled; or a cell is burnt where it differs.
+pub enum Task {
     Erasing,
     Filling,
-    Looking,
     Burning,
 }
 
-// The stage, the image's index of the sector's first cell, the cell in the sector, and the driver of the operation.
+// What is done in a sector: it is read; unerased, looked at again; or an operation is driven.
+pub enum Stage {
+    Scanning,
+    Looking,
+    Driving(Task, Driver),
+}
+
+// The stage, the image's index of the sector's first cell, and the cell in the sector.
 pub struct Loader {
     pub stage: Stage,
     pub base: u32,
     pub at: u32,
-    pub driver: Driver,
 }
 
 // Why a cycle is sent: a scan's read, a write in front of a command's last one, that one, a poll, the confirming read.
@@ -61,22 +67,6 @@ pub enum Turn {
     Stop(u32),
 }
 
-// No operation is driven.
-fn no_driver() -> Driver
-    ensures { λ r. ⌜ r ≡ nobody ⌝ }
-{
-    let phase = Phase::Writing;
-    Driver {
-        part: 0,
-        command: 0,
-        address: 0,
-        data: 0,
-        p: 0,
-        phase,
-        count: 0,
-    }
-}
-
 impl Job {
     // A cell of a sector is read.
     fn reads_cell(self, stage: Stage, base: u32, at: u32) -> Turn
@@ -89,20 +79,14 @@ impl Job {
             wp: self.wp,
             action,
         };
-        let driver = no_driver();
-        let loader = Loader {
-            stage,
-            base,
-            at,
-            driver,
-        };
+        let loader = Loader { stage, base, at };
         Turn::Play(loader, Purpose::Scan, cycle)
     }
 
     // The sector at base is read, if there is one.
-    pub(crate) fn first_turn(self, base: u32) -> Turn
+    pub(crate) fn next_sector(self, base: u32) -> Turn
         requires { ⌜ self .first + self .count ≤ 4194304 ⌝ }
-        ensures { λ r. ⌜ r ≡ firstOf self base ⌝ }
+        ensures { λ r. ⌜ r ≡ nextSector self base ⌝ }
     {
         if base < self.count {
             return self.reads_cell(Stage::Scanning, base, 0);
@@ -119,47 +103,42 @@ impl Job {
         if at < self.size {
             return self.reads_cell(Stage::Looking, base, at);
         }
-        self.first_turn(base + self.size)
+        self.next_sector(base + self.size)
     }
 
-    // An operation at a cell of a sector begins.
-    fn begin(self, stage: Stage, base: u32, at: u32, command: u32, data: u16) -> Turn
+    // An operation at a cell of a sector begins with its first write.
+    fn begin(self, task: Task, base: u32, at: u32, command: u32, data: u16) -> Turn
         requires { ⌜ self .first + (base + at) ≤ 4294967295 ⌝ }
-        ensures { λ r. ⌜ r ≡ beginOf self stage base at command «data» ⌝ }
+        ensures { λ r. ⌜ r ≡ beginOf self task base at command «data» ⌝ }
     {
-        let started = driver::start(self.part, command, self.first + (base + at), data, self.p);
-        if started.answer == 0 {
-            let d = started.driver;
-            return self.first_step(stage, base, at, d);
-        }
-        Turn::Stop(started.answer)
+        let address = self.first + (base + at);
+        let step = driver::start_writing(self.part, command, address, data, self.p);
+        self.first_step(task, base, at, step)
     }
 
-    // A started driver's first step. It names the command's write 0, which the k-th write gives too: a step is called at one place
-    // only, and the compiler puts it there.
-    fn first_step(self, stage: Stage, base: u32, at: u32, d: Driver) -> Turn
-        requires { ⌜ inRange d ≡ true ⌝ }
-        requires { ⌜ (d .phase ≡ Phase.Writing) × (d .count ≡ 0) ⌝ }
-        ensures { λ r. ⌜ r ≡ firstStep self stage base at (stepOf d 0) ⌝ }
+    // A driver's first step: its cycle, or the refusal of its start.
+    fn first_step(self, task: Task, base: u32, at: u32, step: Step) -> Turn
+        ensures { λ r. ⌜ r ≡ firstStep self task base at step ⌝ }
     {
-        let w = driver::kth_write(d.part, d.command, d.address, d.data, 0);
-        let write = Action::Write(w.address, w.data);
-        let mut named = d;
-        named.count = 1;
-        self.goes_on(stage, base, at, named, 0, write)
+        let next = step.next;
+        let d = step.driver;
+        match next {
+            Next::Nothing => Turn::Stop(step.answer),
+            Next::Send(elapsed, action) => self.goes_on(task, base, at, d, elapsed, action),
+        }
     }
 
     // The cycle that a driver names.
     fn goes_on(
         self,
-        stage: Stage,
+        task: Task,
         base: u32,
         at: u32,
         driver: Driver,
         elapsed: u32,
         action: Action,
     ) -> Turn
-        ensures { λ r. ⌜ r ≡ goesOn self stage base at driver elapsed action ⌝ }
+        ensures { λ r. ⌜ r ≡ goesOn self task base at driver elapsed action ⌝ }
     {
         let purpose = purpose_of(driver, action);
         let cycle = Cycle {
@@ -167,18 +146,14 @@ impl Job {
             wp: self.wp,
             action,
         };
-        let loader = Loader {
-            stage,
-            base,
-            at,
-            driver,
-        };
+        let stage = Stage::Driving(task, driver);
+        let loader = Loader { stage, base, at };
         Turn::Play(loader, purpose, cycle)
     }
 
     // The next non-blank value of an erased sector from at on is programmed; then the next sector.
     fn fill(self, image: &[u16], base: u32, at: u32) -> Turn
-        requires { ⌜ Kept self (length (now image)) ⌝ }
+        requires { ⌜ JobFits self (length (now image)) ⌝ }
         requires { ⌜ base + self .size ≤ self .count ⌝ }
         requires { ⌜ at ≤ self .size ⌝ }
         ensures { λ r. ⌜ r ≡ fillOf self (now (image .entry)) base at ⌝ }
@@ -188,14 +163,14 @@ impl Job {
         let mark = at as usize + leading(&image[from..end], parts::blank(self.row.width));
         if mark < self.size as usize {
             let data = image[base as usize + mark];
-            return self.begin(Stage::Filling, base, mark as u32, 0, data);
+            return self.begin(Task::Filling, base, mark as u32, PROGRAM, data);
         }
-        self.first_turn(base + self.size)
+        self.next_sector(base + self.size)
     }
 
     // A cell of an unerased sector that differs is programmed at once.
     fn burn(self, image: &[u16], base: u32, at: u32, reply: u16) -> Turn
-        requires { ⌜ Kept self (length (now image)) ⌝ }
+        requires { ⌜ JobFits self (length (now image)) ⌝ }
         requires { ⌜ base + self .size ≤ self .count ⌝ }
         requires { ⌜ at < self .size ⌝ }
         ensures { λ r. ⌜ r ≡ burnOf self (now (image .entry)) base at reply ⌝ }
@@ -204,12 +179,24 @@ impl Job {
         if reply == data {
             return self.look(base, at + 1);
         }
-        self.begin(Stage::Burning, base, at, 0, data)
+        self.begin(Task::Burning, base, at, PROGRAM, data)
+    }
+
+    // What a decision asks for is begun: the sector's erase, or its cells are read again.
+    fn carry_out(self, decision: Decision, base: u32) -> Turn
+        requires { ⌜ self .first + self .count ≤ 4194304 ⌝ }
+        requires { ⌜ base + self .size ≤ self .count ⌝ }
+        ensures { λ r. ⌜ r ≡ carryOut self base decision ⌝ }
+    {
+        match decision {
+            Decision::NoErase => self.look(base, 0),
+            Decision::SectorErase => self.begin(Task::Erasing, base, 0, SECTOR, 0),
+        }
     }
 
     // The sector's decision, from the values seen.
     fn decide(self, image: &[u16], seen: &[u16], base: u32) -> Turn
-        requires { ⌜ Kept self (length (now image)) ⌝ }
+        requires { ⌜ JobFits self (length (now image)) ⌝ }
         requires { ⌜ base + self .size ≤ self .count ⌝ }
         requires { ⌜ self .size ≤ length (now seen) ⌝ }
         ensures { λ r. ⌜ r ≡ decideOf self (now (image .entry)) (now (seen .entry)) base ⌝ }
@@ -217,59 +204,55 @@ impl Job {
         let size = self.size as usize;
         let from = base as usize;
         let end = from + size;
-        if must_rise(&seen[..size], &image[from..end], self.row.width) {
-            return self.begin(Stage::Erasing, base, 0, 1, 0);
-        }
-        self.look(base, 0)
+        let decision = decision_of(&seen[..size], &image[from..end], self.row.width);
+        self.carry_out(decision, base)
     }
 
     // What follows an operation.
-    fn then(self, image: &[u16], stage: Stage, base: u32, at: u32) -> Turn
-        requires { ⌜ Kept self (length (now image)) ⌝ }
+    fn then(self, image: &[u16], task: Task, base: u32, at: u32) -> Turn
+        requires { ⌜ JobFits self (length (now image)) ⌝ }
         requires { ⌜ base + self .size ≤ self .count ⌝ }
         requires { ⌜ at < self .size ⌝ }
-        ensures { λ r. ⌜ r ≡ afterwards self (now (image .entry)) stage base at ⌝ }
+        ensures { λ r. ⌜ r ≡ afterwards self (now (image .entry)) task base at ⌝ }
     {
-        match stage {
-            Stage::Scanning => self.look(base, at + 1),
-            Stage::Erasing => self.fill(image, base, 0),
-            Stage::Filling => self.fill(image, base, at + 1),
-            Stage::Looking => self.look(base, at + 1),
-            Stage::Burning => self.look(base, at + 1),
+        match task {
+            Task::Erasing => self.fill(image, base, 0),
+            Task::Filling => self.fill(image, base, at + 1),
+            Task::Burning => self.look(base, at + 1),
         }
     }
 
     // A driver's step: its cycle, or what follows.
-    fn driven(self, image: &[u16], stage: Stage, base: u32, at: u32, step: Step) -> Turn
-        requires { ⌜ Kept self (length (now image)) ⌝ }
+    fn driven(self, image: &[u16], task: Task, base: u32, at: u32, step: Step) -> Turn
+        requires { ⌜ JobFits self (length (now image)) ⌝ }
         requires { ⌜ base + self .size ≤ self .count ⌝ }
         requires { ⌜ at < self .size ⌝ }
-        ensures { λ r. ⌜ r ≡ drivenOf self (now (image .entry)) stage base at step ⌝ }
+        ensures { λ r. ⌜ r ≡ drivenOf self (now (image .entry)) task base at step ⌝ }
     {
         let next = step.next;
         let d = step.driver;
         match next {
-            Next::Nothing => self.ended(image, stage, base, at, step.answer),
-            Next::Send(elapsed, action) => self.goes_on(stage, base, at, d, elapsed, action),
+            Next::Nothing => self.ended(image, task, base, at, step.answer),
+            Next::Send(elapsed, action) => self.goes_on(task, base, at, d, elapsed, action),
         }
     }
 
     // An operation has ended.
-    fn ended(self, image: &[u16], stage: Stage, base: u32, at: u32, answer: u32) -> Turn
-        requires { ⌜ Kept self (length (now image)) ⌝ }
+    fn ended(self, image: &[u16], task: Task, base: u32, at: u32, answer: u32) -> Turn
+        requires { ⌜ JobFits self (length (now image)) ⌝ }
         requires { ⌜ base + self .size ≤ self .count ⌝ }
         requires { ⌜ at < self .size ⌝ }
-        ensures { λ r. ⌜ r ≡ pick (eqb answer 0) (afterwards self (now (image .entry)) stage base at) (Turn.Stop answer) ⌝ }
+        ensures { λ r. ⌜ r ≡ pick (eqb answer 0) (afterwards self (now (image .entry)) task base at) (Turn.Stop answer) ⌝ }
     {
         if answer == 0 {
-            return self.then(image, stage, base, at);
+            return self.then(image, task, base, at);
         }
         Turn::Stop(answer)
     }
 
     // The scan goes on to the sector's end, then decides.
     fn scanned(self, image: &[u16], seen: &[u16], base: u32, at: u32) -> Turn
-        requires { ⌜ Kept self (length (now image)) ⌝ }
+        requires { ⌜ JobFits self (length (now image)) ⌝ }
         requires { ⌜ base + self .size ≤ self .count ⌝ }
         requires { ⌜ at < self .size ⌝ }
         requires { ⌜ self .size ≤ length (now seen) ⌝ }
@@ -318,7 +301,7 @@ fn write_purpose(polls: bool, command: u32) -> Purpose
 
 // Why a driver names a cycle.
 fn purpose_of(d: Driver, action: Action) -> Purpose
-    ensures { λ r. ⌜ r ≡ purposeOf d action ⌝ }
+    ensures { λ r. ⌜ r ≡ purposeOf (d .command) (d .phase) action ⌝ }
 {
     let phase = d.phase;
     let polls = is_polling(phase);
@@ -331,9 +314,9 @@ fn purpose_of(d: Driver, action: Action) -> Purpose
 }
 
 impl Loader {
-    // Whether the loader is within its job.
-    fn is_within(self, job: Job) -> bool
-        ensures { λ r. ⌜ r ≡ within job self ⌝ }
+    // Whether the loader is in its job: its sector in the image, its cell in the sector.
+    fn is_in_job(self, job: Job) -> bool
+        ensures { λ r. ⌜ r ≡ inJob job self ⌝ }
     {
         if self.base as u64 + job.size as u64 <= job.count as u64 {
             return self.at < job.size;
@@ -343,18 +326,17 @@ impl Loader {
 
     // What the stage does, the reply of a scan being among the values seen.
     fn stage_turn(self, job: Job, image: &[u16], seen: &[u16], reply: u16) -> Turn
-        requires { ⌜ Kept job (length (now image)) ⌝ }
+        requires { ⌜ JobFits job (length (now image)) ⌝ }
         requires { ⌜ self .base + job .size ≤ job .count ⌝ }
         requires { ⌜ self .at < job .size ⌝ }
         requires { ⌜ job .size ≤ length (now seen) ⌝ }
-        ensures { λ r. ⌜ r ≡ stageOf job (now (image .entry)) (now (seen .entry)) (self .stage) (self .base) (self .at) (self .driver) reply ⌝ }
+        ensures { λ r. ⌜ r ≡ stageOf job (now (image .entry)) (now (seen .entry)) (self .stage) (self .base) (self .at) reply ⌝ }
     {
         let stage = self.stage;
-        let d = self.driver;
         match stage {
             Stage::Scanning => job.scanned(image, seen, self.base, self.at),
             Stage::Looking => job.burn(image, self.base, self.at, reply),
-            _ => job.driven(image, stage, self.base, self.at, d.step(reply)),
+            Stage::Driving(task, d) => job.driven(image, task, self.base, self.at, d.step(reply)),
         }
     }
 
@@ -369,19 +351,17 @@ impl Loader {
             Stage::Scanning => {
                 seen[at] = reply;
             }
-            Stage::Erasing => {}
-            Stage::Filling => {}
             Stage::Looking => {}
-            Stage::Burning => {}
+            Stage::Driving(_, _) => {}
         }
     }
 
     // The turn after a reply.
     pub(crate) fn turn(self, job: Job, image: &[u16], seen: &mut [u16; 4096], reply: u16) -> Turn
-        requires { ⌜ Kept job (length (now image)) ⌝ }
+        requires { ⌜ JobFits job (length (now image)) ⌝ }
         ensures { λ r. ⌜ (r ≡ turnOf job (now (image .entry)) (now (seen .entry)) self reply .turn) × (now (seen .exit) ≡ turnOf job (now (image .entry)) (now (seen .entry)) self reply .seen) ⌝ }
     {
-        if !self.is_within(job) {
+        if !self.is_in_job(job) {
             return Turn::Stop(5);
         }
         self.keep(seen, reply);

@@ -1,6 +1,12 @@
 // The refusals of a job, in document 01's order.
 use parts::Row;
 use parts::Span;
+use parts::names::BAD_INTERVAL;
+use parts::names::NOT_SECTORS;
+use parts::names::PAST_CELLS;
+use parts::names::PROTECTED;
+use parts::names::WIDE_IMAGE;
+use parts::names::WRONG_CELLS;
 ghost use mathlib.Core.Path.{_≡_};
 ghost use Prim.Native.Nat.{_+_, _≤_};
 ghost use lib.Dec.{leb};
@@ -54,7 +60,7 @@ fn protection_refusal(row: Row, first: usize, count: usize, wp: bool) -> u32
     }
     let protected = row.protected_range();
     if meets_range(protected, first, count) {
-        return 9;
+        return PROTECTED;
     }
     0
 }
@@ -67,16 +73,16 @@ fn range_refusal(row: Row, first: u32, image: &[u16], wp: bool) -> u32
     let from = first as usize;
     let count = image.len();
     if 0 < from % size {
-        return 6;
+        return NOT_SECTORS;
     }
     if 0 < count % size {
-        return 6;
+        return NOT_SECTORS;
     }
     if !within(row.cells as usize, from, count) {
-        return 7;
+        return PAST_CELLS;
     }
     if !all_fit(row.width, image) {
-        return 8;
+        return WIDE_IMAGE;
     }
     protection_refusal(row, from, count, wp)
 }
@@ -98,14 +104,14 @@ pub(crate) fn job_refusal(
         return answer;
     }
     let row = found.row;
-    if lent == row.cells as usize {
-        if p == 0 {
-            return 10;
-        }
-        if 1000 < p {
-            return 10;
-        }
-        return range_refusal(row, first, image, wp);
+    if lent != row.cells as usize {
+        return WRONG_CELLS;
     }
-    2
+    if p == 0 {
+        return BAD_INTERVAL;
+    }
+    if 1000 < p {
+        return BAD_INTERVAL;
+    }
+    range_refusal(row, first, image, wp)
 }

@@ -5,10 +5,14 @@ use crate::loader::Turn;
 use chip::Action;
 use chip::Cycle;
 use chip::Device;
+use parts::names::A_READ;
+use parts::names::A_WRITE;
+use parts::names::NO_CYCLE;
+use parts::names::PROGRAM;
 ghost use mathlib.Core.Path.{_≡_};
 ghost use Prim.Native.Nat.{_<_, _≤_};
 ghost use lib.ListN.{length};
-ghost use Rattle.job.specs.Kept.{Counts, Kept};
+ghost use Rattle.job.specs.Fits.{CountsFit, JobFits};
 ghost use Rattle.job.specs.Run.{begunOf, countedOf, ended, lastOf, noLast, noneSent, runFrom, sendOf, stopFrom, stopNumber, world};
 
 // What the cycles sent so far have counted, and their µs.
@@ -50,7 +54,7 @@ pub(crate) fn no_last() -> Last
     ensures { λ r. ⌜ r ≡ noLast ⌝ }
 {
     Last {
-        kind: 0,
+        kind: NO_CYCLE,
         elapsed: 0,
         wp: false,
         address: 0,
@@ -64,14 +68,14 @@ fn last_of(elapsed: u32, wp: bool, action: Action) -> Last
 {
     match action {
         Action::Read(address) => Last {
-            kind: 1,
+            kind: A_READ,
             elapsed,
             wp,
             address,
             data: 0,
         },
         Action::Write(address, data) => Last {
-            kind: 2,
+            kind: A_WRITE,
             elapsed,
             wp,
             address,
@@ -83,14 +87,14 @@ fn last_of(elapsed: u32, wp: bool, action: Action) -> Last
 }
 
 impl Tally {
-    // An operation more: 0 program, 1 sector erase.
+    // An operation more.
     fn begun(self, command: u32, elapsed: u32) -> Tally
-        requires { ⌜ Counts self 2147483648 ⌝ }
+        requires { ⌜ CountsFit self 2147483648 ⌝ }
         ensures { λ r. ⌜ r ≡ begunOf self command elapsed ⌝ }
     {
         let mut t = self;
         t.time += elapsed as u64;
-        if command == 0 {
+        if command == PROGRAM {
             t.programs += 1;
             return t;
         }
@@ -100,7 +104,7 @@ impl Tally {
 
     // A cycle more.
     fn counted(self, purpose: Purpose, elapsed: u32) -> Tally
-        requires { ⌜ Counts self 2147483648 ⌝ }
+        requires { ⌜ CountsFit self 2147483648 ⌝ }
         ensures { λ r. ⌜ r ≡ countedOf self purpose elapsed ⌝ }
     {
         let mut t = self;
@@ -147,7 +151,7 @@ fn none_sent() -> Held
 
 // Sends one cycle.
 fn send(part: u32, cells: &mut [u16], h: Held, purpose: Purpose, cycle: Cycle) -> Held
-    requires { ⌜ Counts (h .tally) 2147483648 ⌝ }
+    requires { ⌜ CountsFit (h .tally) 2147483648 ⌝ }
     requires { ⌜ h .sent < 2147483648 ⌝ }
     ensures { λ r. ⌜ (r ≡ sendOf part (world (now (cells .entry)) h) purpose cycle .held) × (now (cells .exit) ≡ sendOf part (world (now (cells .entry)) h) purpose cycle .cells) ⌝ }
 {
@@ -177,13 +181,13 @@ fn stop_number(turn: Turn) -> u32
 
 // Sends the loader's cycles, at most k.
 pub(crate) fn run(cells: &mut [u16], job: Job, image: &[u16], k: u64) -> Ended
-    requires { ⌜ Kept job (length (now image)) ⌝ }
+    requires { ⌜ JobFits job (length (now image)) ⌝ }
     requires { ⌜ k ≤ 2147483648 ⌝ }
     ensures { λ r. ⌜ (r ≡ ended (runFrom job (now (image .entry)) (now (cells .entry)) k .held) (stopFrom job (now (image .entry)) (now (cells .entry)) k)) × (now (cells .exit) ≡ runFrom job (now (image .entry)) (now (cells .entry)) k .cells) ⌝ }
 {
     let mut seen = [0u16; 4096];
     let mut held = none_sent();
-    let mut turn = job.first_turn(0);
+    let mut turn = job.next_sector(0);
     while held.sent < k {
         let Turn::Play(loader, purpose, cycle) = turn else {
             let answer = stop_number(turn);

@@ -1,33 +1,64 @@
-// The search for a bit that must rise, over cells and their bits.
+// The search for a bit that must rise, over cells and their bits, and the decision of a sector.
 ghost use mathlib.Core.Path.{_≡_};
+ghost use Prim.Native.Nat.{_≤_};
 ghost use lib.ListN.{length};
-ghost use Rattle.job.specs.Search.{leadingOf, rises};
+ghost use Rattle.job.specs.Search.{decides, decisionOf, leadingOf, riseFrom};
 
-// Whether some value of old has a 0 among its low bits where that of new has a 1: the search ends at the first one found.
-pub(crate) fn must_rise(old: &[u16], new: &[u16], width: u32) -> bool
+// Where a bit must rise: the first cell that has one, and its lowest; or nowhere.
+pub enum Rise {
+    At(usize, u32),
+    Nowhere,
+}
+
+// What a sector asks for: clearing bits suffices, or its erase.
+pub enum Decision {
+    NoErase,
+    SectorErase,
+}
+
+// Where a value of old has a 0 among its low bits and that of new a 1: the search ends at the first one found.
+fn first_rise(old: &[u16], new: &[u16], width: u32) -> Rise
     requires { ⌜ length (now old) ≡ length (now new) ⌝ }
-    ensures { λ r. ⌜ r ≡ rises width (now (old .entry)) (now (new .entry)) ⌝ }
+    ensures { λ r. ⌜ r ≡ riseFrom width 0 (now (old .entry)) (now (new .entry)) ⌝ }
 {
-    let mut found = false;
+    let mut found = Rise::Nowhere;
     let mut i: usize = 0;
     'cells: while i < old.len() {
         let mut o = old[i];
         let mut n = new[i];
-        let mut left = width;
-        while 0 < left {
+        let mut bit: u32 = 0;
+        while bit < width {
             if o % 2 == 0 {
                 if n % 2 == 1 {
-                    found = true;
+                    found = Rise::At(i, bit);
                     break 'cells;
                 }
             }
             o = o / 2;
             n = n / 2;
-            left -= 1;
+            bit += 1;
         }
         i += 1;
     }
     found
+}
+
+// The decision that a search comes to.
+fn decided(rise: Rise) -> Decision
+    ensures { λ r. ⌜ r ≡ decides rise ⌝ }
+{
+    match rise {
+        Rise::At(_, _) => Decision::SectorErase,
+        Rise::Nowhere => Decision::NoErase,
+    }
+}
+
+// The decision of a sector, from the values read and the image's.
+pub(crate) fn decision_of(read: &[u16], image: &[u16], width: u32) -> Decision
+    requires { ⌜ length (now read) ≡ length (now image) ⌝ }
+    ensures { λ r. ⌜ r ≡ decisionOf width (now (read .entry)) (now (image .entry)) ⌝ }
+{
+    decided(first_rise(read, image, width))
 }
 
 // How many of the values at the front are v.

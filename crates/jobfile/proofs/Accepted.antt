@@ -15,7 +15,7 @@ use Rattle.jobfile.specs.Made.{twoByTwo}
 use Rattle.jobfile.proofs.Values.{values-from}
 
 -- a trailer that has so many bytes before it is right
-pub record Right (t : List ℕ) (before : ℕ) : Type 0 where
+pub record RightTrailer (t : List ℕ) (before : ℕ) : Type 0 where
   pub zero-byte : zeroOf t ≡ 0
   pub zero-bytes : zerosOf t ≡ 0
   pub level : levelOf t ≤ 1
@@ -34,7 +34,7 @@ no-more x h = omega (arith, ltb-false 0 x h)
 not-odd : (x : ℕ) → eqb (x % 2) 1 ≡ false → x % 2 ≡ 0
 not-odd x h = omega (arith, eqb-false (x % 2) 1 h)
 
-pub is-right : (t : List ℕ) (before : ℕ) → wrong t before ≡ false → Right t before
+pub is-right : (t : List ℕ) (before : ℕ) → wrong t before ≡ false → RightTrailer t before
 unfolding wrong
 is-right t before h =
     let a = neither _ _ h in
@@ -49,24 +49,24 @@ is-right t before h =
       within = ltb-false _ _ (e .1);
     }
 
-pub not-wrong : (t : List ℕ) (before : ℕ) → Right t before → wrong t before ≡ false
+not-wrong : (t : List ℕ) (before : ℕ) → RightTrailer t before → wrong t before ≡ false
 unfolding wrong
 not-wrong t before r =
     let e = r .even in
     simp (r .zero-byte, r .zero-bytes, le-ltb 1 _ (r .level), ne-eqb (distanceOf t % 2) 1 (λ o. omega arith), le-ltb _ _ (r .within))
 
 -- refusal 13 is given exactly where the file is under 16 bytes or its trailer is not right
-pub record Sound (file : List ℕ) : Type 0 where
+pub record SoundFile (file : List ℕ) : Type 0 where
   pub long : 16 ≤ length file
-  pub right : Right (trailerOf file) (length file - 16)
+  pub right : RightTrailer (trailerOf file) (length file - 16)
 
-pub is-sound : (file : List ℕ) → malformed file ≡ false → Sound file
+pub is-sound : (file : List ℕ) → malformed file ≡ false → SoundFile file
 unfolding malformed
 is-sound file h =
     let a = neither _ _ h in
     record { long = ltb-false _ _ (a .0); right = is-right _ _ (a .1) }
 
-pub not-malformed : (file : List ℕ) → Sound file → malformed file ≡ false
+pub not-malformed : (file : List ℕ) → SoundFile file → malformed file ≡ false
 unfolding malformed
 not-malformed file s = simp (le-ltb _ _ (s .long), not-wrong _ _ (s .right))
 
@@ -94,7 +94,7 @@ values-two-by-two file start n h =
     let e : start + 0 ≡ start = omega arith in
     ap (λ (k : ℕ). valuesOf file k n) (sym e) ∙ (sym (values-from file start 0 n) ∙ values-pairs n (drop start file) (omega (arith, length-drop start file)))
 
-module _ (file : List ℕ) (sound : Sound file) where
+module _ (file : List ℕ) (sound : SoundFile file) where
   pub job-asked : jobOf file ≡ asked (trailerOf file) (length file - 16)
   unfolding jobOf
   job-asked = rw (not-malformed file sound)

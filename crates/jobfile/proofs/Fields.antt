@@ -9,7 +9,7 @@ use lib.Seq.{take-all, take-nil, drop-drop}
 use Rattle.jobfile.specs.Bytes.{number, field}
 
 -- the first bytes of a number and, above them, the others
-pub number-split : (m n : ℕ) (xs : List ℕ) → number (take (m + n) xs) ≡ number (take m xs) + 256 ^ m * number (take n (drop m xs))
+number-split : (m n : ℕ) (xs : List ℕ) → number (take (m + n) xs) ≡ number (take m xs) + 256 ^ m * number (take n (drop m xs))
 unfolding number
 number-split zero n xs = rw (zero-add n) (omega arith)
 number-split (suc m) n [] = simp (take-nil, mul-zero)

@@ -11,7 +11,7 @@ use Rattle.parts.specs.Pick.{pick}
 use Rattle.jobfile.specs.Bytes.{field}
 use Rattle.jobfile.specs.JobFile.{partOf, levelOf, firstOf, pOf, distanceOf, trailerOf, jobOf, valuesOf}
 use Rattle.jobfile.specs.Made.{Below, bytesOf, imageBytes, twoByTwo, trailerBytes, fileOf}
-use Rattle.jobfile.proofs.Accepted.{Right, Sound, job-asked, values-two-by-two}
+use Rattle.jobfile.proofs.Accepted.{RightTrailer, SoundFile, job-asked, values-two-by-two}
 use Rattle.jobfile.proofs.Spelled.{below-drop, below-take, field-bytes}
 use Rattle.jobfile.proofs.Values.{values-length}
 
@@ -28,7 +28,7 @@ module _ (t : List ℕ) (bytes : Below 256 t) where
       ap₂ {A = List ℕ} {B = List ℕ} {C = List ℕ} (λ x y. x ++ y) (ap (bytesOf n) f ∙ field-bytes t a n h bytes) (e ∙ sym (drop-drop n a t))
       ∙ take-append-drop n (drop a t)
 
-  trailer-made : (before : ℕ) → length t ≡ 16 → Right t before → trailerBytes (partOf t) (eqb (levelOf t) 1) (firstOf t) (pOf t) (distanceOf t) ≡ t
+  trailer-made : (before : ℕ) → length t ≡ 16 → RightTrailer t before → trailerBytes (partOf t) (eqb (levelOf t) 1) (firstOf t) (pOf t) (distanceOf t) ≡ t
   trailer-made before e r =
       piece 0 2 _ _ (omega arith) refl
       (piece 2 1 _ _ (omega arith) (level-same (levelOf t) (r .level))
@@ -52,14 +52,14 @@ image-pairs (suc n) (x ∷ y ∷ bytes) e b =
     let high : (x + 256 * y) / 256 ≡ y = omega arith in
     rw (low, high, mod-eq-of-lt ly, image-pairs n bytes (omega arith) (λ i. b (suc (suc i))))
 
-pub image-made : (file : List ℕ) (start n : ℕ) → start + 2 * n ≤ length file → Below 256 file → imageBytes (valuesOf file start n) ≡ take (2 * n) (drop start file)
+image-made : (file : List ℕ) (start n : ℕ) → start + 2 * n ≤ length file → Below 256 file → imageBytes (valuesOf file start n) ≡ take (2 * n) (drop start file)
 image-made file start n h b =
     ap imageBytes (values-two-by-two file start n h)
     ∙ image-pairs n (take (2 * n) (drop start file)) (length-take-le (2 * n) (drop start file) (omega (arith, length-drop start file)))
     (below-take 256 (2 * n) (drop start file) (omega arith) (below-drop 256 start file b))
 
 -- ---- a file
-module _ (file : List ℕ) (bytes : Below 256 file) (sound : Sound file) where
+module _ (file : List ℕ) (bytes : Below 256 file) (sound : SoundFile file) where
   pub only-made : fileOf (take (jobOf file .start) file) (jobOf file .part) (jobOf file .wp) (jobOf file .first) (jobOf file .p)
       (valuesOf file (jobOf file .start) (jobOf file .count)) ≡ file
   only-made =

@@ -12,7 +12,7 @@ use Rattle.jobfile.specs.Bytes.{number, field}
 use Rattle.jobfile.specs.JobFile.{levelOf, distanceOf, trailerOf, asks, asked, jobOf, valuesOf}
 use Rattle.jobfile.specs.Made.{Below, bytesOf, imageBytes, trailerBytes, fileOf}
 use Rattle.jobfile.proofs.Spelled.{number-bytes}
-use Rattle.jobfile.proofs.Accepted.{Right, job-asked}
+use Rattle.jobfile.proofs.Accepted.{RightTrailer, job-asked}
 use Rattle.jobfile.proofs.Values.{values-from}
 
 -- ---- the fields of a trailer that is made
@@ -37,7 +37,7 @@ module _ (part : ℕ) (wp : Bool) (first p distance : ℕ) where
   unfolding bytesOf
   trailer-length = refl
 
-  trailer-right : (before : ℕ) → distance < 2 ^ 32 → distance % 2 ≡ 0 → distance ≤ before → Right (trailerBytes part wp first p distance) before
+  trailer-right : (before : ℕ) → distance < 2 ^ 32 → distance % 2 ≡ 0 → distance ≤ before → RightTrailer (trailerBytes part wp first p distance) before
   unfolding number field bytesOf
   trailer-right before fits even within =
       let e = distance-back fits in
@@ -86,7 +86,7 @@ module _ (remarks : List ℕ) (part : ℕ) (wp : Bool) (first p : ℕ) (image : 
       let e : length file - 16 ≡ before = omega (arith, made-length) in
       let s : before - distance ≡ length remarks = omega arith in
       let c : distance / 2 ≡ length image = omega arith in
-      let r : Right (trailerOf file) (length file - 16) = rw (made-trailer, e) (trailer-right part wp first p distance before d (omega arith) (omega arith)) in
+      let r : RightTrailer (trailerOf file) (length file - 16) = rw (made-trailer, e) (trailer-right part wp first p distance before d (omega arith) (omega arith)) in
       job-asked file (record { long = omega (arith, made-length); right = r })
       ∙ (ap₂ asked made-trailer e
       ∙ (asked-back part wp first p distance before a f q d ∙ ap₂ (asks part wp first p) s c))

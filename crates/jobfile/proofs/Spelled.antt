@@ -18,7 +18,7 @@ number-bytes (suc n) x h =
     omega (arith, number-bytes n (x / 256) l)
 
 -- n bytes are spelt again from their number
-pub bytes-number : (n : ℕ) (bytes : List ℕ) → length bytes ≡ n → Below 256 bytes → bytesOf n (number bytes) ≡ bytes
+bytes-number : (n : ℕ) (bytes : List ℕ) → length bytes ≡ n → Below 256 bytes → bytesOf n (number bytes) ≡ bytes
 unfolding number bytesOf
 bytes-number zero [] e b = refl
 bytes-number zero (x ∷ xs) e b = absurd (omega arith)

@@ -16,7 +16,7 @@ unfolding valuesOf
 values-length file start zero = refl
 values-length file start (suc n) = ap suc (values-length file (start + 2) n)
 
-pub values-more : (file : List ℕ) (start n : ℕ) → valuesOf file start (suc n) ≡ valuesOf file start n ++ (field file (start + 2 * n) 2 ∷ [])
+values-more : (file : List ℕ) (start n : ℕ) → valuesOf file start (suc n) ≡ valuesOf file start n ++ (field file (start + 2 * n) 2 ∷ [])
 unfolding valuesOf
 values-more file start zero = let e : start + 2 * 0 ≡ start = omega arith in rw e
 values-more file start (suc n) =

@@ -4,7 +4,8 @@ use mathlib.Core.Bool.{Bool, true, false}
 use mathlib.Core.List.{List, [], _∷_}
 use lib.Dec.{eqb, ltb}
 use lib.ListN.{length, drop}
-use Rattle.parts.specs.Pick.{pick}
+use Rattle.parts.specs.Names.{BAD-FILE}
+use Rattle.parts.specs.Pick.{pick, _when_, _else_}
 use Rattle.jobfile.specs.Bytes.{field}
 use Rattle.jobfile.specs.declared.trailer.JobFile.{JobFile}
 
@@ -41,11 +42,11 @@ distanceOf t = field t 12 4
 -- a trailer is wrong that has so many bytes before it: a wrong zero, a level above 1, an odd distance, or one beyond the file's start
 unfoldable pub wrong : List ℕ → ℕ → Bool
 wrong t before =
-    pick (ltb 0 (zeroOf t)) true
-    (pick (ltb 0 (zerosOf t)) true
-    (pick (ltb 1 (levelOf t)) true
-    (pick (eqb (distanceOf t % 2) 1) true
-    (ltb before (distanceOf t)))))
+    true when ltb 0 (zeroOf t)
+    else true when ltb 0 (zerosOf t)
+    else true when ltb 1 (levelOf t)
+    else true when eqb (distanceOf t % 2) 1
+    else ltb before (distanceOf t)
 
 -- the trailer of a file: its last 16 bytes
 abbrev pub trailerOf : List ℕ → List ℕ
@@ -53,11 +54,11 @@ trailerOf file = drop (length file - 16) file
 
 -- a file is malformed: under 16 bytes, or its trailer is wrong
 unfoldable pub malformed : List ℕ → Bool
-malformed file = pick (ltb (length file) 16) true (wrong (trailerOf file) (length file - 16))
+malformed file = true when ltb (length file) 16 else wrong (trailerOf file) (length file - 16)
 
 -- refusal 13, all numbers beside it 0
 abbrev pub refused : JobFile
-refused = record { answer = 13; part = 0; wp = false; first = 0; p = 0; start = 0; count = 0 }
+refused = record { answer = BAD-FILE; part = 0; wp = false; first = 0; p = 0; start = 0; count = 0 }
 
 -- what is asked, by its numbers
 abbrev pub asks : ℕ → Bool → ℕ → ℕ → ℕ → ℕ → JobFile

@@ -3,6 +3,7 @@ use crate::bytes::bytes_from;
 use crate::bytes::four_bytes;
 use crate::bytes::one_byte;
 use crate::bytes::two_bytes;
+use parts::names::BAD_FILE;
 ghost use mathlib.Core.Path.{_≡_};
 ghost use Prim.Native.Nat.{_≤_};
 ghost use lib.ListN.{length};
@@ -25,7 +26,7 @@ fn refused_job() -> JobFile
     ensures { λ r. ⌜ r ≡ refused ⌝ }
 {
     JobFile {
-        answer: 13,
+        answer: BAD_FILE,
         part: 0,
         wp: false,
         first: 0,

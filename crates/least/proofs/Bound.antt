@@ -8,7 +8,7 @@ use mathlib.Core.List.{List, [], _∷_, _++_, append-assoc}
 use lib.ListN.{length, getD, set, take, drop, length-set, length-map, length-take, length-drop, length-append, take-append-drop}
 use lib.Seq.{take-at, drop-at, take-set-le, take-set-lt, drop-set-lt, drop-set-add, getD-drop, getD-take, drop-drop, take-add, length-take-le}
 use Rattle.parts.specs.Width.{blankOf, valueOf}
-use Rattle.least.specs.Operations.{Op, Program, Erase, programmed, blanks, erased, perform, performAll, Holds, cost, costAll}
+use Rattle.least.specs.Operations.{Op, Program, Erase, programmed, blanks, erased, operate, operateAll, Holds, cost, costAll}
 use Rattle.least.specs.LeastTime.{sectorTime, sectorsTime, leastTime}
 use Rattle.least.proofs.Lists.{drop-next}
 use Rattle.least.proofs.Sector.{sector-done, sector-program, sector-blanks}
@@ -22,14 +22,14 @@ erased-onward w k a c l =
 
 module _ (w S : ℕ) where
   -- no operation changes the number of cells
-  pub perform-length : (op : Op) (l : List ℕ) → length (perform w S op l) ≡ length l
+  pub operate-length : (op : Op) (l : List ℕ) → length (operate w S op l) ≡ length l
   unfolding erased
-  perform-length (Program a d) l = length-set l a _
-  perform-length (Erase s) l = simp (length-append, length-map, length-take, length-drop) (omega arith)
+  operate-length (Program a d) l = length-set l a _
+  operate-length (Erase s) l = simp (length-append, length-map, length-take, length-drop) (omega arith)
 
-  pub performAll-length : (ops : List Op) (l : List ℕ) → length (performAll w S ops l) ≡ length l
-  performAll-length [] l = refl
-  performAll-length (op ∷ ops) l = performAll-length ops (perform w S op l) ∙ perform-length op l
+  pub operateAll-length : (ops : List Op) (l : List ℕ) → length (operateAll w S ops l) ≡ length l
+  operateAll-length [] l = refl
+  operateAll-length (op ∷ ops) l = operateAll-length ops (operate w S op l) ∙ operate-length op l
 
   -- the same operation one sector on
   abbrev onward : Op → Op
@@ -37,12 +37,12 @@ module _ (w S : ℕ) where
   onward (Erase s) = Erase (suc s)
 
   -- it leaves the first sector, and does to the rest what the operation does
-  perform-onward : (op : Op) (l : List ℕ) → perform w S (onward op) l ≡ take S l ++ perform w S op (drop S l)
-  perform-onward (Program a d) l =
+  operate-onward : (op : Op) (l : List ℕ) → operate w S (onward op) l ≡ take S l ++ operate w S op (drop S l)
+  operate-onward (Program a d) l =
       sym (take-append-drop S _)
       ∙ ap₂ (λ (p q : List ℕ). p ++ q) (take-set-le S l (S + a) _ (omega arith))
       (drop-set-add S l a _ ∙ ap (λ (o : ℕ). set (drop S l) a (programmed w o d)) (sym (getD-drop S l a 0)))
-  perform-onward (Erase s) l =
+  operate-onward (Erase s) l =
       let e : suc s * S ≡ S + s * S = omega arith in
       rw e (erased-onward w S (s * S) _ l)
 
@@ -50,8 +50,8 @@ module _ (w S tp te : ℕ) where
   -- an operation on the first sector: it leaves the rest, and lowers the sector's time by no more than it takes
   abbrev First : Op → List ℕ → List ℕ → Type 0
   First op l v =
-      (drop S (perform w S op l) ≡ drop S l)
-      × (sectorTime w tp te (take S l) (take S v) ≤ sectorTime w tp te (take S (perform w S op l)) (take S v) + cost tp te op)
+      (drop S (operate w S op l) ≡ drop S l)
+      × (sectorTime w tp te (take S l) (take S v) ≤ sectorTime w tp te (take S (operate w S op l)) (take S v) + cost tp te op)
 
   first-program : (a d : ℕ) (l v : List ℕ) → a < S → First (Program a d) l v
   first-program a d l v h =
@@ -62,7 +62,7 @@ module _ (w S tp te : ℕ) where
   first-erase l v h =
       let k : length (take S l) ≡ S = length-take-le S l h in
       let b : length (blanks w (take S l)) ≡ S = length-map (take S l) (λ o. blankOf w) ∙ k in
-      let e : perform w S (Erase 0) l ≡ blanks w (take S l) ++ drop S l = rw (zero-mul S, zero-add S) in (
+      let e : operate w S (Erase 0) l ≡ blanks w (take S l) ++ drop S l = rw (zero-mul S, zero-add S) in (
         ap (drop S) e ∙ drop-at (blanks w (take S l)) (drop S l) S b,
         rw (e, take-at (blanks w (take S l)) (drop S l) S b) (sector-blanks w tp te (take S l) (take S v) (omega (arith, k, length-take S v))),
       )
@@ -80,11 +80,11 @@ module _ (w S tp te : ℕ) where
 
   -- what an operation one sector on does to the first sector and to the rest, and what it takes
   module _ (op : Op) (l : List ℕ) (h : S ≤ length l) where
-    onward-first : take S (perform w S (onward w S op) l) ≡ take S l
-    onward-first = rw (perform-onward w S op l) (take-at (take S l) (perform w S op (drop S l)) S (length-take-le S l h))
+    onward-first : take S (operate w S (onward w S op) l) ≡ take S l
+    onward-first = rw (operate-onward w S op l) (take-at (take S l) (operate w S op (drop S l)) S (length-take-le S l h))
 
-    onward-rest : drop S (perform w S (onward w S op) l) ≡ perform w S op (drop S l)
-    onward-rest = rw (perform-onward w S op l) (drop-at (take S l) (perform w S op (drop S l)) S (length-take-le S l h))
+    onward-rest : drop S (operate w S (onward w S op) l) ≡ operate w S op (drop S l)
+    onward-rest = rw (operate-onward w S op l) (drop-at (take S l) (operate w S op (drop S l)) S (length-take-le S l h))
 
   onward-cost : (op : Op) → cost tp te (onward w S op) ≡ cost tp te op
   onward-cost (Program a d) = refl
@@ -100,22 +100,22 @@ module _ (w S tp te : ℕ) where
 
   -- an operation lowers the least time by no more than it takes
   abbrev Lowers : ℕ → ℕ → List ℕ → List ℕ → Op → Type 0
-  Lowers f n l v op = leastTime w S tp te f n l v ≤ leastTime w S tp te f n (perform w S op l) v + cost tp te op
+  Lowers f n l v op = leastTime w S tp te f n l v ≤ leastTime w S tp te f n (operate w S op l) v + cost tp te op
 
   least-step : (f n : ℕ) (op : Op) (l v : List ℕ) → (f + n) * S ≤ length l → Lowers f n l v op
   least-step zero zero op l v h = zero-le
   least-step zero (suc n) op l v h =
       let k : S ≤ length l = omega arith in
       by-place (Lowers 0 (suc n) l v) l v k
-      (λ o e. rw (least-first n l v, least-first n (perform w S o l) v, e .0) (omega (arith, e .1)))
-      (λ o. rw (least-first n l v, least-first n (perform w S (onward w S o) l) v, onward-first o l k, onward-rest o l k, onward-cost o)
+      (λ o e. rw (least-first n l v, least-first n (operate w S o l) v, e .0) (omega (arith, e .1)))
+      (λ o. rw (least-first n l v, least-first n (operate w S (onward w S o) l) v, onward-first o l k, onward-rest o l k, onward-cost o)
       (omega (arith, least-step zero n o (drop S l) (drop S v) (rw length-drop (omega arith)))))
       op
   least-step (suc f) n op l v h =
       let k : S ≤ length l = omega arith in
       by-place (Lowers (suc f) n l v) l v k
-      (λ o e. rw (least-rest f n l v, least-rest f n (perform w S o l) v, e .0) (omega arith))
-      (λ o. rw (least-rest f n l v, least-rest f n (perform w S (onward w S o) l) v, onward-rest o l k, onward-cost o)
+      (λ o e. rw (least-rest f n l v, least-rest f n (operate w S o l) v, e .0) (omega arith))
+      (λ o. rw (least-rest f n l v, least-rest f n (operate w S (onward w S o) l) v, onward-rest o l k, onward-cost o)
       (least-step f n o (drop S l) v (rw length-drop (omega arith))))
       op
 
@@ -131,8 +131,8 @@ module _ (w S tp te : ℕ) where
 
   -- so no operations that end with the image in the range take less
   pub bound : (f n : ℕ) (ops : List Op) (l v : List ℕ) → (f + n) * S ≤ length l
-      → Holds w S f n (performAll w S ops l) v → leastTime w S tp te f n l v ≤ costAll tp te ops
+      → Holds w S f n (operateAll w S ops l) v → leastTime w S tp te f n l v ≤ costAll tp te ops
   bound f n [] l v h k = omega (arith, sectors-done n (drop (f * S) l) v (λ i j. rw (getD-drop (f * S) l i 0) (k i j)))
   bound f n (op ∷ ops) l v h k =
-      let h′ : (f + n) * S ≤ length (perform w S op l) = rw (perform-length w S op l) h in
-      omega (arith, least-step f n op l v h, bound f n ops (perform w S op l) v h′ k)
+      let h′ : (f + n) * S ≤ length (operate w S op l) = rw (operate-length w S op l) h in
+      omega (arith, least-step f n op l v h, bound f n ops (operate w S op l) v h′ k)

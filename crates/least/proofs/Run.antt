@@ -12,9 +12,9 @@ use Rattle.parts.specs.Pick.{pick}
 use Rattle.parts.specs.Width.{blankOf, valueOf}
 use Rattle.parts.proofs.Values.{value-value}
 use Rattle.parts.proofs.Every.{split}
-use Rattle.least.specs.Operations.{Op, Program, programmed, blanks, erased, perform, performAll, costAll}
+use Rattle.least.specs.Operations.{Op, Program, programmed, blanks, erased, operate, operateAll, costAll}
 use Rattle.least.specs.LeastTime.{differs, rises, rising, differing, sectorTime, sectorsTime}
-use Rattle.least.specs.Job.{programs, sectorOps, sectorsOps, jobOps, afterJob, liveOps}
+use Rattle.least.specs.Job.{programs, sectorOps, sectorsOps, jobOps, afterJob}
 use Rattle.least.proofs.Lists.{drop-next, map-same}
 use Rattle.least.proofs.Cell.{one-zero, same-value}
 use Rattle.least.proofs.Sector.{choose, rising-blanks, sector-clear, sector-erase}
@@ -55,11 +55,11 @@ module _ (w S : ℕ) where
   pub record Leaves (ops : List Op) (cells p v q : List ℕ) : Type 0 where
     pub found : List ℕ
     pub values : map (valueOf w) found ≡ map (valueOf w) v
-    pub ends : performAll w S ops cells ≡ p ++ (found ++ q)
+    pub ends : operateAll w S ops cells ≡ p ++ (found ++ q)
 
-  performAll-append : (a b : List Op) (l : List ℕ) → performAll w S (a ++ b) l ≡ performAll w S b (performAll w S a l)
-  performAll-append [] b l = refl
-  performAll-append (op ∷ a) b l = performAll-append a b (perform w S op l)
+  operateAll-append : (a b : List Op) (l : List ℕ) → operateAll w S (a ++ b) l ≡ operateAll w S b (operateAll w S a l)
+  operateAll-append [] b l = refl
+  operateAll-append (op ∷ a) b l = operateAll-append a b (operate w S op l)
 
   -- of which there are as many
   pub found-length : {ops : List Op} {cells p v q : List ℕ} (k : Leaves ops cells p v q) → length (k .found) ≡ length v
@@ -72,7 +72,7 @@ module _ (w S : ℕ) where
       record {
         found = k .found ++ j .found;
         values = rw (← e) (simp map-append (cc (k .values, j .values)));
-        ends = performAll-append a b cells ∙ ap (performAll w S b) (k .ends ∙ sym (append-assoc p (k .found) r)) ∙ j .ends ∙ simp append-assoc;
+        ends = operateAll-append a b cells ∙ ap (operateAll w S b) (k .ends ∙ sym (append-assoc p (k .found) r)) ∙ j .ends ∙ simp append-assoc;
       }
 
   -- one cell
@@ -118,7 +118,7 @@ module _ (w S : ℕ) where
       record {
         found = after .found;
         values = after .values;
-        ends = ap (performAll w S (programs w (s * S) (blanks w v) v)) blank ∙ after .ends;
+        ends = ap (operateAll w S (programs w (s * S) (blanks w v) v)) blank ∙ after .ends;
       })
       (λ r. programs-run l v (s * S) p q e (omega arith) r)
 
@@ -150,15 +150,6 @@ module _ (w S : ℕ) where
   sectors-run zero {v = x ∷ v} h = absurd (omega arith)
   sectors-run (suc n) {l = l} {v = v} h =
       rw (drop-next S n l) (go-on (take-append-drop S v) (first-run h) (sectors-run n (step-on h)))
-
-  -- the decision of each sector, made when the job comes to it
-  pub live-run : (n : ℕ) {s : ℕ} {l v p : List ℕ} → Stands n s l v p → liveOps w S s n (p ++ l) v ≡ sectorsOps w S s n l v
-  live-run zero h = refl
-  live-run (suc n) {s} {l} {v} {p} h =
-      let ops = sectorOps w S s (take S l) (take S v) in
-      rw (drop-at p l (s * S) (h .before))
-      (ap (λ (c : List ℕ). ops ++ liveOps w S (suc s) n c (drop S v)) (first-run h .ends ∙ sym (append-assoc p (first-run h .found) (drop S l)))
-      ∙ ap (λ (r : List Op). ops ++ r) (live-run n (step-on h)))
 
 -- ---- the job on the n sectors from sector f on
 module _ (w S f n : ℕ) (cells image : List ℕ) (inside : (f + n) * S ≤ length cells) (whole : length image ≡ n * S) where

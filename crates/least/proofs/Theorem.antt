@@ -3,24 +3,20 @@
 use mathlib.Core.Path.{_≡_}
 use mathlib.Core.Logic.{_⊎_, ⊎-elim}
 use mathlib.Core.List.{List}
-use Prim.Native.Nat.{ℕ, suc, _+_, _*_, _≤_, _<_}
-use native.Mathlib.Nat.{add-zero}
+use Prim.Native.Nat.{ℕ, _+_, _*_, _≤_, _<_}
 use native.Mathlib.Omega.{arith}
-use lib.Dec.{ltb}
-use lib.ListN.{length, getD, take, drop, take-append-drop}
-use lib.Seq.{drop-drop}
-use Rattle.parts.specs.Pick.{pick}
+use lib.ListN.{length, getD, take, drop}
 use Rattle.parts.specs.Width.{valueOf}
-use Rattle.least.specs.Operations.{Op, performAll, Holds, costAll}
-use Rattle.least.specs.LeastTime.{rising, differing, nonBlank, sectorTime, leastTime}
-use Rattle.least.specs.Job.{jobOps, afterJob, liveOps}
+use Rattle.least.specs.Operations.{Op, operateAll, Holds, costAll}
+use Rattle.least.specs.LeastTime.{leastTime}
+use Rattle.least.specs.Job.{jobOps, afterJob}
 use Rattle.least.proofs.Lists.{middle, map-at, begin-alike, end-alike}
-use Rattle.least.proofs.Bound.{performAll-length, bound}
-use Rattle.least.proofs.Run.{found-length, sectors-cost, live-run, start, job-run, job-begins, job-ends}
+use Rattle.least.proofs.Bound.{operateAll-length, bound}
+use Rattle.least.proofs.Run.{found-length, sectors-cost, start, job-run, job-begins, job-ends}
 
 module _ (w S tp te f n : ℕ) (cells image : List ℕ) where
   -- Any operations after which the range holds the image take at least the least time.
-  pub optimal : (ops : List Op) → (f + n) * S ≤ length cells → Holds w S f n (performAll w S ops cells) image
+  pub optimal : (ops : List Op) → (f + n) * S ≤ length cells → Holds w S f n (operateAll w S ops cells) image
       → leastTime w S tp te f n cells image ≤ costAll tp te ops
   optimal ops inside h = bound w S tp te f n ops cells image inside h
 
@@ -29,7 +25,7 @@ module _ (w S tp te f n : ℕ) (cells image : List ℕ) where
   job-cost = sectors-cost w S tp te n f (drop (f * S) cells) image
 
   -- So they take no more than any operations after which the range holds the image.
-  pub job-best : (ops : List Op) → (f + n) * S ≤ length cells → Holds w S f n (performAll w S ops cells) image
+  pub job-best : (ops : List Op) → (f + n) * S ≤ length cells → Holds w S f n (operateAll w S ops cells) image
       → costAll tp te (jobOps w S f n cells image) ≤ costAll tp te ops
   job-best ops inside h = omega (arith, job-cost, optimal ops inside h)
 
@@ -46,24 +42,7 @@ module _ (w S f n : ℕ) (cells image : List ℕ) (inside : (f + n) * S ≤ leng
   pub job-elsewhere : (length (afterJob w S f n cells image) ≡ length cells)
       × ((i : ℕ) → (i < f * S) ⊎ ((f + n) * S ≤ i) → getD (afterJob w S f n cells image) i 0 ≡ getD cells i 0)
   job-elsewhere = (
-    performAll-length w S (jobOps w S f n cells image) cells,
+    operateAll-length w S (jobOps w S f n cells image) cells,
     λ i. ⊎-elim (begin-alike _ cells (f * S) i (job-begins w S f n cells image inside whole))
         (end-alike _ cells ((f + n) * S) i (job-ends w S f n cells image inside whole)),
   )
-
-  -- To decide each sector on the cells as they are when the job comes to it gives the same operations.
-  pub job-live : liveOps w S f n cells image ≡ jobOps w S f n cells image
-  job-live = rw (take-append-drop (f * S) cells) at (live-run w S n (start w S f n cells image inside whole))
-
-module _ (w S tp te f : ℕ) (cells image : List ℕ) where
-  -- The least time of one sector: where a bit must rise, an erase and a program for each image value that is not blank;
-  -- else a program for each value that differs.
-  pub least-one : let l = take S (drop (f * S) cells) in let v = take S image in
-      leastTime w S tp te f 1 cells image ≡ pick (ltb 0 (rising w l v)) (te + nonBlank w v * tp) (differing w l v * tp)
-  unfolding sectorTime
-  least-one = add-zero _
-
-  -- The least time of several: that of the first, and of the rest.
-  pub least-more : (n : ℕ) → leastTime w S tp te f (suc n) cells image
-      ≡ leastTime w S tp te f 1 cells image + leastTime w S tp te (suc f) n cells (drop S image)
-  least-more n = let e : suc f * S ≡ f * S + S = omega arith in rw (drop-drop S (f * S) cells, e) (omega arith)

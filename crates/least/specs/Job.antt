@@ -4,7 +4,7 @@ use Prim.Native.Nat.{ℕ, zero, suc, _*_}
 use lib.Dec.{ltb}
 use lib.ListN.{take, drop}
 use Rattle.parts.specs.Pick.{pick}
-use Rattle.least.specs.Operations.{Op, Program, Erase, blanks, performAll}
+use Rattle.least.specs.Operations.{Op, Program, Erase, blanks, operateAll}
 use Rattle.least.specs.LeastTime.{differs, rising}
 
 -- from address a on, a program for each image value that differs from the cell's, ascending
@@ -30,11 +30,4 @@ module _ (w S : ℕ) where
 
   -- the cells after it
   abbrev pub afterJob : ℕ → ℕ → List ℕ → List ℕ → List ℕ
-  afterJob f n cells image = performAll w S (jobOps f n cells image) cells
-
-  -- the job's operations, each sector decided from the cells as they are when the job comes to it
-  abbrev pub liveOps : ℕ → ℕ → List ℕ → List ℕ → List Op
-  liveOps f zero cells image = []
-  liveOps f (suc n) cells image =
-      let ops = sectorOps f (take S (drop (f * S) cells)) (take S image) in
-      ops ++ liveOps (suc f) n (performAll w S ops cells) (drop S image)
+  afterJob f n cells image = operateAll w S (jobOps f n cells image) cells

@@ -27,14 +27,14 @@ module _ (w : ℕ) where
 
 module _ (w S : ℕ) where
   -- what an operation leaves, whatever its address or sector: past the last cell there is nothing to change
-  abbrev pub perform : Op → List ℕ → List ℕ
-  perform (Program a d) cells = set cells a (programmed w (getD cells a 0) d)
-  perform (Erase s) cells = erased w (s * S) S cells
+  abbrev pub operate : Op → List ℕ → List ℕ
+  operate (Program a d) cells = set cells a (programmed w (getD cells a 0) d)
+  operate (Erase s) cells = erased w (s * S) S cells
 
   -- one operation after the other
-  abbrev pub performAll : List Op → List ℕ → List ℕ
-  performAll [] cells = cells
-  performAll (op ∷ ops) cells = performAll ops (perform op cells)
+  abbrev pub operateAll : List Op → List ℕ → List ℕ
+  operateAll [] cells = cells
+  operateAll (op ∷ ops) cells = operateAll ops (operate op cells)
 
   -- the n sectors from sector f on hold the image: meant of values
   abbrev pub Holds : ℕ → ℕ → List ℕ → List ℕ → Type 0

@@ -27,15 +27,19 @@ bounds-hold s a l h = simp (le-ltb a (s .first) l, lt-ltb (a - s .first) (s .cou
 
 -- ---- ranges of any size
 module _ (size : ℕ) (some : 0 < size) where
-  pub range-holds : (a : ℕ) → holdsb (rangeOf size a) a ≡ true
+  range-holds : (a : ℕ) → holdsb (rangeOf size a) a ≡ true
   range-holds a = bounds-hold (rangeOf size a) a (div-mul-le-self a size) (lt-div-mul-add some)
 
   -- an address in a range has that range
-  pub range-same : (a b : ℕ) → holdsb (rangeOf size a) b ≡ true → rangeOf size b ≡ rangeOf size a
+  range-same : (a b : ℕ) → holdsb (rangeOf size a) b ≡ true → rangeOf size b ≡ rangeOf size a
   range-same a b h =
       let w = holds-bounds (rangeOf size a) b h in
       let e : b / size ≡ a / size = div-eq-of-lt-le {k = a / size} size (w .0) (omega (arith, w .1, suc-mul (a / size) size)) in
       ap (λ (q : ℕ). span (q * size) size) e
+
+  -- two ranges that share an address are the same
+  range-apart : (a b x : ℕ) → holdsb (rangeOf size a) x ≡ true → holdsb (rangeOf size b) x ≡ true → rangeOf size a ≡ rangeOf size b
+  range-apart a b x h i = sym (range-same a x h) ∙ range-same b x i
 
   -- where the cells are whole ranges, the range of one of them lies among them
   pub range-fits : (cells a : ℕ) → cells % size ≡ 0 → a < cells → a / size * size + size ≤ cells
@@ -45,7 +49,7 @@ module _ (size : ℕ) (some : 0 < size) where
       omega (arith, e, suc-mul (a / size) size, mul-le-mul-right size q)
 
 -- a range of a size that divides another lies in one range of that
-pub range-inside : (small large a : ℕ) → 0 < small → 0 < large → large % small ≡ 0 → (a / large * large ≤ a / small * small) × (a / small * small + small ≤ a / large * large + large)
+range-inside : (small large a : ℕ) → 0 < small → 0 < large → large % small ≡ 0 → (a / large * large ≤ a / small * small) × (a / small * small + small ≤ a / large * large + large)
 range-inside small large a s l z =
     let m = large / small in
     let e : m * small ≡ large = omega (arith, div-add-mod' large small) in
@@ -63,9 +67,9 @@ pub sector-holds : (r : Row) (a : ℕ) → holdsb (sectorOf r a) a ≡ true
 unfolding sectorOf
 sector-holds r a = range-holds (sectorSize (r .width)) (sector-some (r .width)) a
 
-pub sector-same : (r : Row) (a b : ℕ) → holdsb (sectorOf r a) b ≡ true → sectorOf r b ≡ sectorOf r a
+pub sector-apart : (r : Row) (a b x : ℕ) → holdsb (sectorOf r a) x ≡ true → holdsb (sectorOf r b) x ≡ true → sectorOf r a ≡ sectorOf r b
 unfolding sectorOf
-sector-same r a b h = range-same (sectorSize (r .width)) (sector-some (r .width)) a b h
+sector-apart r a b x = range-apart (sectorSize (r .width)) (sector-some (r .width)) a b x
 
 -- ---- blocks
 block-some : (r : Row) → hasBlocks r ≡ true → 0 < r .block
@@ -76,13 +80,9 @@ pub block-holds : (r : Row) (a : ℕ) → hasBlocks r ≡ true → holdsb (block
 unfolding blockOf
 block-holds r a h = range-holds (r .block) (block-some r h) a
 
-pub block-same : (r : Row) (a b : ℕ) → hasBlocks r ≡ true → holdsb (blockOf r a) b ≡ true → blockOf r b ≡ blockOf r a
-unfolding blockOf
-block-same r a b h i = range-same (r .block) (block-some r h) a b i
-
--- two blocks that share an address are the same
 pub block-apart : (r : Row) (a b x : ℕ) → hasBlocks r ≡ true → holdsb (blockOf r a) x ≡ true → holdsb (blockOf r b) x ≡ true → blockOf r a ≡ blockOf r b
-block-apart r a b x h i j = sym (block-same r a x h i) ∙ block-same r b x h j
+unfolding blockOf
+block-apart r a b x h = range-apart (r .block) (block-some r h) a b x
 
 -- ---- of a known part
 module _ (n : ℕ) (k : partRefusal n ≡ 0) (a : ℕ) (there : a < rowOf n .cells) where

@@ -5,6 +5,7 @@ use Prim.Native.Nat.{ℕ, _%_, _^_, _≤_, _<_}
 use native.Mathlib.Omega.{arith}
 use borrow.Author.Tests.{ltb-true, ltb-false, leb-true, eqb-true, eqb-false}
 use lib.Dec.{eqb, ltb, leb}
+use lib.Pow.{pow-mono}
 use Rattle.parts.specs.Pick.{pick}
 use Rattle.parts.specs.Width.{sectorSize}
 use Rattle.parts.specs.Table.{lines, noLine, rowFrom, rowOf, partRefusal}
@@ -44,7 +45,7 @@ module _ (n : ℕ) (k : partRefusal n ≡ 0) where
   device-fits = ltb-true _ _ (rule (λ r. ltb (r .device) (2 ^ r .width)) refl n k)
 
   pub device-word : rowOf n .device < 65536
-  device-word = ltb-true _ _ (rule (λ r. ltb (r .device) 65536) refl n k)
+  device-word = omega (arith, device-fits, pow-mono width-most)
 
   -- cells are whole sectors and, where there are blocks, whole blocks; blocks are whole sectors
   pub cells-sectors : rowOf n .cells % sectorSize (rowOf n .width) ≡ 0
@@ -70,10 +71,6 @@ module _ (n : ℕ) (k : partRefusal n ≡ 0) where
   time-most command h =
       leb-true _ _ (at (λ t. leb t 140000) (times (rowOf n)) 0 (rule (λ r. every (λ t. leb t 140000) (times r)) refl n k) command (omega arith))
 
-  -- the unlock addresses differ, and are addresses of the part that the compared bits tell apart from all others
-  pub unlock-differ : rowOf n .u1 ≡ rowOf n .u2 → ⊥
-  unlock-differ = eqb-false _ _ (unless _ true (rule (λ r. pick (eqb (r .u1) (r .u2)) false true) refl n k) .0)
-
   -- the codes of the erases are bytes, and no two are alike
   pub codes-differ : rowOf n .«sector_code» ≡ rowOf n .«block_code» → ⊥
   codes-differ = eqb-false _ _ (unless _ true (rule (λ r. pick (eqb (r .«sector_code») (r .«block_code»)) false true) refl n k) .0)
@@ -90,6 +87,7 @@ module _ (n : ℕ) (k : partRefusal n ≡ 0) where
   pub block-byte : rowOf n .«block_code» < 256
   block-byte = ltb-true _ _ (rule (λ r. ltb (r .«block_code») 256) refl n k)
 
+  -- the unlock addresses are addresses of the part that the compared bits tell apart from all others
   pub u1-compared : rowOf n .u1 < rowOf n .compared
   u1-compared = ltb-true _ _ (rule (λ r. ltb (r .u1) (r .compared)) refl n k)
 

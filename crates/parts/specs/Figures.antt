@@ -1,9 +1,10 @@
 -- The figures of the part table.
 use Prim.Native.Nat.{ℕ}
 use mathlib.Core.List.{List, [], _∷_}
-use lib.Dec.{ltb}
+use lib.Dec.{eqb, ltb}
 use lib.ListN.{getD}
-use Rattle.parts.specs.Pick.{pick}
+use Rattle.parts.specs.Names.{NO-ENTRY}
+use Rattle.parts.specs.Pick.{pick, _when_, _else_, _orElse_}
 use Rattle.parts.specs.Table.{rowOf, partRefusal}
 use Rattle.parts.specs.declared.table.Row.{Row}
 use Rattle.parts.specs.declared.figure.Figure.{Figure}
@@ -15,9 +16,13 @@ figure n v = record { answer = n; value = v }
 abbrev pub columns : Row → List ℕ
 columns r = r .width ∷ r .cells ∷ r .block ∷ r .device ∷ r .program ∷ r .erase ∷ r .chip ∷ []
 
--- the figure of a part in a column; refusals 1, 15
+-- 1, then 15 for a column above 6
+abbrev pub figureRefusal : ℕ → ℕ → ℕ
+figureRefusal part column = partRefusal part orElse NO-ENTRY when ltb 6 column else 0
+
+-- the figure of a part in a column, 0 beside a refusal
 unfoldable pub figureOf : ℕ → ℕ → Figure
 figureOf part column =
-    pick (ltb 0 (partRefusal part)) (figure (partRefusal part) 0)
-    (pick (ltb 6 column) (figure 15 0)
-    (figure 0 (getD (columns (rowOf part)) column 0)))
+    pick (eqb (figureRefusal part column) 0)
+    (figure 0 (getD (columns (rowOf part)) column 0))
+    (figure (figureRefusal part column) 0)

@@ -1,3 +1,4 @@
+pub mod Names
 pub mod Pick
 pub mod Width
 pub mod Table

@@ -1,10 +1,12 @@
 -- The ranges of a part: an address's sector and block, and the protected end.
 use Prim.Native.Nat.{ℕ, _-_, _*_, _/_}
 use mathlib.Core.Bool.{Bool, false}
-use lib.Dec.{eqb, ltb}
+use lib.Dec.{ltb}
 use Rattle.parts.specs.Pick.{pick}
 use Rattle.parts.specs.Width.{sectorSize}
 use Rattle.parts.specs.declared.span.Span.{Span}
+use Rattle.parts.specs.declared.table.End.{End}
+use Rattle.parts.specs.declared.table.End.the-variants.{Neither, Lowest, Highest}
 use Rattle.parts.specs.declared.table.Row.{Row}
 
 -- count cells from an address on
@@ -31,9 +33,12 @@ hasBlocks r = ltb 0 (r .block)
 unfoldable pub blockOf : Row → ℕ → Span
 blockOf r a = rangeOf (r .block) a
 
--- what WP# low protects: nothing, the block of the lowest address or that of the highest
+-- the block at an end of the part: none, that of the lowest address or that of the highest
+abbrev pub blockAt : Row → End → Span
+blockAt r Neither = span 0 0
+blockAt r Lowest = blockOf r 0
+blockAt r Highest = blockOf r (r .cells - 1)
+
+-- what WP# low protects
 unfoldable pub protectedOf : Row → Span
-protectedOf r =
-    pick (eqb (r .protected) 1) (blockOf r 0)
-    (pick (eqb (r .protected) 2) (blockOf r (r .cells - 1))
-    (span 0 0))
+protectedOf r = blockAt r (r .protected)

@@ -3,35 +3,42 @@ use Prim.Native.Nat.{ℕ, _^_}
 use mathlib.Core.List.{List, [], _∷_}
 use lib.Dec.{ltb}
 use lib.ListN.{getD}
-use Rattle.parts.specs.Pick.{pick}
+use Rattle.parts.specs.Names.{NO-PART}
+use Rattle.parts.specs.Pick.{pick, _when_, _else_}
+use Rattle.parts.specs.declared.table.End.{End}
+use Rattle.parts.specs.declared.table.End.the-variants.{Neither, Lowest, Highest}
 use Rattle.parts.specs.declared.table.Line.{Line}
 use Rattle.parts.specs.declared.table.Row.{Row}
 use Rattle.parts.specs.declared.table.Found.{Found}
 
--- the columns width, cells, block (0: none), device ID, program, sector/block, chip;
--- beside them U1, U2, two to the compared bits, the sector's and the block's code, and what WP# low protects (0 nothing, 1 the lowest block, 2 the highest)
-abbrev pub line : ℕ → ℕ → ℕ → ℕ → ℕ → ℕ → ℕ → ℕ → ℕ → ℕ → ℕ → ℕ → ℕ → Line
-line w c b d p e h u v l s k x =
-    record { columns = w ∷ c ∷ b ∷ d ∷ p ∷ e ∷ h ∷ []; beside = u ∷ v ∷ l ∷ s ∷ k ∷ x ∷ [] }
+-- a part's line: the columns of the table, and beside them U1, U2, two to the compared bits, the codes of sector and block, and the end that WP# low protects
+abbrev pub line : ℕ → ℕ → ℕ → ℕ → ℕ → ℕ → ℕ → ℕ → ℕ → ℕ → ℕ → ℕ → End → Line
+line width cells block device program erase chip u1 u2 compared sector-code block-code protected =
+    record {
+      columns = width ∷ cells ∷ block ∷ device ∷ program ∷ erase ∷ chip ∷ [];
+      beside = u1 ∷ u2 ∷ compared ∷ sector-code ∷ block-code ∷ [];
+      protected = protected;
+    }
 
 abbrev pub lines : List Line
 lines =
-    line 16 8192 4096 0xfff0 14 18000 70000 0x555 0x2aa (2 ^ 11) 0x30 0x50 1
-    ∷ line 8 131072 0 0xb5 14 18000 70000 0x5555 0x2aaa (2 ^ 15) 0x30 0x50 0
-    ∷ line 8 262144 0 0xb6 14 18000 70000 0x5555 0x2aaa (2 ^ 15) 0x30 0x50 0
-    ∷ line 8 524288 0 0xb7 14 18000 70000 0x5555 0x2aaa (2 ^ 15) 0x30 0x50 0
-    ∷ line 16 131072 32768 0x2789 14 18000 70000 0x5555 0x2aaa (2 ^ 15) 0x30 0x50 0
-    ∷ line 16 262144 32768 0x2780 14 18000 70000 0x5555 0x2aaa (2 ^ 15) 0x30 0x50 0
-    ∷ line 16 524288 32768 0x2781 14 18000 70000 0x5555 0x2aaa (2 ^ 15) 0x30 0x50 0
-    ∷ line 16 1048576 32768 0x274b 28 36000 140000 0x5555 0x2aaa (2 ^ 15) 0x30 0x50 1
-    ∷ line 16 1048576 32768 0x274a 28 36000 140000 0x5555 0x2aaa (2 ^ 15) 0x30 0x50 2
-    ∷ line 16 4194304 32768 0x236d 7 18000 40000 0x555 0x2aa (2 ^ 11) 0x50 0x30 1
-    ∷ line 16 4194304 32768 0x236c 7 18000 40000 0x555 0x2aa (2 ^ 11) 0x50 0x30 2
+    -- Width, Cells, Block (0: none), Device ID, Program, Sector/block, Chip; U1, U2, compared, sector code, block code, protected end
+    line 16 8192 4096 0xfff0 14 18000 70000 0x555 0x2aa (2 ^ 11) 0x30 0x50 Lowest  -- 0 bench (house)
+    ∷ line 8 131072 0 0xb5 14 18000 70000 0x5555 0x2aaa (2 ^ 15) 0x30 0x50 Neither  -- 1 SF010A
+    ∷ line 8 262144 0 0xb6 14 18000 70000 0x5555 0x2aaa (2 ^ 15) 0x30 0x50 Neither  -- 2 SF020A
+    ∷ line 8 524288 0 0xb7 14 18000 70000 0x5555 0x2aaa (2 ^ 15) 0x30 0x50 Neither  -- 3 SF040
+    ∷ line 16 131072 32768 0x2789 14 18000 70000 0x5555 0x2aaa (2 ^ 15) 0x30 0x50 Neither  -- 4 VF200A
+    ∷ line 16 262144 32768 0x2780 14 18000 70000 0x5555 0x2aaa (2 ^ 15) 0x30 0x50 Neither  -- 5 VF400A
+    ∷ line 16 524288 32768 0x2781 14 18000 70000 0x5555 0x2aaa (2 ^ 15) 0x30 0x50 Neither  -- 6 VF800A
+    ∷ line 16 1048576 32768 0x274b 28 36000 140000 0x5555 0x2aaa (2 ^ 15) 0x30 0x50 Lowest  -- 7 WF1601
+    ∷ line 16 1048576 32768 0x274a 28 36000 140000 0x5555 0x2aaa (2 ^ 15) 0x30 0x50 Highest  -- 8 WF1602
+    ∷ line 16 4194304 32768 0x236d 7 18000 40000 0x555 0x2aa (2 ^ 11) 0x50 0x30 Lowest  -- 9 VF6401B
+    ∷ line 16 4194304 32768 0x236c 7 18000 40000 0x555 0x2aa (2 ^ 11) 0x50 0x30 Highest  -- 10 VF6402B
     ∷ []
 
 -- past the table there is no number: each is read as 0
 abbrev pub noLine : Line
-noLine = record { columns = []; beside = [] }
+noLine = record { columns = []; beside = []; protected = Neither }
 
 -- each number of a line by its name
 abbrev pub rowFrom : Line → Row
@@ -49,7 +56,7 @@ rowFrom l =
       compared = getD (l .beside) 2 0;
       «sector_code» = getD (l .beside) 3 0;
       «block_code» = getD (l .beside) 4 0;
-      protected = getD (l .beside) 5 0;
+      protected = l .protected;
     }
 
 -- the line of a part
@@ -62,7 +69,7 @@ rowOf part = rowFrom (lineOf part)
 
 -- refusal 1: a part above 10
 unfoldable pub partRefusal : ℕ → ℕ
-partRefusal part = pick (ltb 10 part) 1 0
+partRefusal part = NO-PART when ltb 10 part else 0
 
 -- the row by the part's number
 abbrev pub foundOf : ℕ → Found

@@ -4,15 +4,16 @@ use mathlib.Core.List.{List, [], _∷_}
 use mathlib.Core.Bool.{Bool, true, false}
 use lib.Dec.{eqb, ltb}
 use lib.ListN.{getD}
-use Rattle.parts.specs.Pick.{pick}
+use Rattle.parts.specs.Names.{BLOCK, CHIP}
+use Rattle.parts.specs.Pick.{pick, _when_, _else_}
 use Rattle.parts.specs.Span.{hasBlocks}
 use Rattle.parts.specs.declared.table.Row.{Row}
 
 -- a part has a command: none above 3, and block only where it has blocks
 unfoldable pub hasCommand : Row → ℕ → Bool
-hasCommand r command = pick (ltb 3 command) false (pick (eqb command 2) (hasBlocks r) true)
+hasCommand r command = false when ltb CHIP command else hasBlocks r when eqb command BLOCK else true
 
--- the times of the commands, 0 program, 1 sector, 2 block, 3 chip
+-- the times of the commands, in the order of their numbers: program, sector, block, chip
 abbrev pub times : Row → List ℕ
 times r = r .program ∷ r .erase ∷ r .erase ∷ r .chip ∷ []
 

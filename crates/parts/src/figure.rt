@@ -1,4 +1,5 @@
 // The figures of the part table.
+use crate::names::NO_ENTRY;
 use crate::part_row;
 ghost use mathlib.Core.Path.{_≡_};
 ghost use Rattle.parts.specs.Figures.{figure, figureOf};
@@ -26,7 +27,7 @@ pub fn part_figure(part: u32, column: u32) -> Figure
         return refused(answer);
     }
     if 6 < column {
-        return refused(15);
+        return refused(NO_ENTRY);
     }
     let row = found.row;
     let columns = [

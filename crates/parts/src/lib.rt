@@ -1,5 +1,6 @@
-// The parts of document 01: the part table, a cell's value and blank by the width, the ranges of an address, and times.
+// The parts of document 01: the part table, the numbers of commands and refusals by name, a cell's value and blank by the width, the ranges of an address, and times.
 mod figure;
+pub mod names;
 mod span;
 mod table;
 mod time;
@@ -8,6 +9,7 @@ mod width;
 pub use figure::Figure;
 pub use figure::part_figure;
 pub use span::Span;
+pub use table::End;
 pub use table::Found;
 pub use table::Line;
 pub use table::Row;

@@ -1,4 +1,5 @@
 // The ranges of a part: an address's sector and block, and the protected end.
+use crate::End;
 use crate::Row;
 ghost use mathlib.Core.Path.{_≡_};
 ghost use Prim.Native.Nat.{_-_};
@@ -82,12 +83,11 @@ impl Row {
     pub fn protected_range(self) -> Span
         ensures { λ r. ⌜ r ≡ protectedOf self ⌝ }
     {
-        if self.protected == 1 {
-            return self.block_of(0);
+        let end = self.protected;
+        match end {
+            End::Neither => Span { first: 0, count: 0 },
+            End::Lowest => self.block_of(0),
+            End::Highest => self.block_of(last(self.cells)),
         }
-        if self.protected == 2 {
-            return self.block_of(last(self.cells));
-        }
-        Span { first: 0, count: 0 }
     }
 }

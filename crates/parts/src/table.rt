@@ -1,15 +1,23 @@
 // The part table of document 01, a line a part.
+use crate::names::NO_PART;
 ghost use mathlib.Core.Path.{_≡_};
 ghost use Prim.Native.Nat.{_≤_};
 ghost use Rattle.parts.specs.Table.{foundOf, lineOf, rowFrom};
 
+// The end that WP# low protects: neither, the lowest block or the highest.
+pub enum End {
+    Neither,
+    Lowest,
+    Highest,
+}
+
 // A part's line of the table: the columns Width, Cells, Block (0: none), Device ID, Program,
 // Sector/block and Chip (times in µs), and the facts beside them: U1, U2 and how many addresses
-// their compared low bits tell apart, the sector's and the block's code, and the end that WP# low
-// protects (0 neither, 1 the lowest block, 2 the highest).
+// their compared low bits tell apart, the sector's and the block's code, and the protected end.
 pub struct Line {
     pub columns: [u32; 7],
-    pub beside: [u32; 6],
+    pub beside: [u32; 5],
+    pub protected: End,
 }
 
 // A part, each number by its name.
@@ -26,7 +34,7 @@ pub struct Row {
     pub compared: u32,
     pub sector_code: u32,
     pub block_code: u32,
-    pub protected: u32,
+    pub protected: End,
 }
 
 // What the table answers: 0 or the refusal, and the row.
@@ -36,61 +44,74 @@ pub struct Found {
 }
 
 // The table, a line a part.
+// columns: Width, Cells, Block, Device ID, Program, Sector/block, Chip
+// beside: U1, U2, compared, sector code, block code
 const LINES: [Line; 11] = [
     // 0 bench (house)
     Line {
         columns: [16, 8192, 4096, 0xfff0, 14, 18000, 70000],
-        beside: [0x555, 0x2aa, 2048, 0x30, 0x50, 1],
+        beside: [0x555, 0x2aa, 2048, 0x30, 0x50],
+        protected: End::Lowest,
     },
     // 1 SF010A
     Line {
         columns: [8, 131072, 0, 0xb5, 14, 18000, 70000],
-        beside: [0x5555, 0x2aaa, 32768, 0x30, 0x50, 0],
+        beside: [0x5555, 0x2aaa, 32768, 0x30, 0x50],
+        protected: End::Neither,
     },
     // 2 SF020A
     Line {
         columns: [8, 262144, 0, 0xb6, 14, 18000, 70000],
-        beside: [0x5555, 0x2aaa, 32768, 0x30, 0x50, 0],
+        beside: [0x5555, 0x2aaa, 32768, 0x30, 0x50],
+        protected: End::Neither,
     },
     // 3 SF040
     Line {
         columns: [8, 524288, 0, 0xb7, 14, 18000, 70000],
-        beside: [0x5555, 0x2aaa, 32768, 0x30, 0x50, 0],
+        beside: [0x5555, 0x2aaa, 32768, 0x30, 0x50],
+        protected: End::Neither,
     },
     // 4 VF200A
     Line {
         columns: [16, 131072, 32768, 0x2789, 14, 18000, 70000],
-        beside: [0x5555, 0x2aaa, 32768, 0x30, 0x50, 0],
+        beside: [0x5555, 0x2aaa, 32768, 0x30, 0x50],
+        protected: End::Neither,
     },
     // 5 VF400A
     Line {
         columns: [16, 262144, 32768, 0x2780, 14, 18000, 70000],
-        beside: [0x5555, 0x2aaa, 32768, 0x30, 0x50, 0],
+        beside: [0x5555, 0x2aaa, 32768, 0x30, 0x50],
+        protected: End::Neither,
     },
     // 6 VF800A
     Line {
         columns: [16, 524288, 32768, 0x2781, 14, 18000, 70000],
-        beside: [0x5555, 0x2aaa, 32768, 0x30, 0x50, 0],
+        beside: [0x5555, 0x2aaa, 32768, 0x30, 0x50],
+        protected: End::Neither,
     },
     // 7 WF1601
     Line {
         columns: [16, 1048576, 32768, 0x274b, 28, 36000, 140000],
-        beside: [0x5555, 0x2aaa, 32768, 0x30, 0x50, 1],
+        beside: [0x5555, 0x2aaa, 32768, 0x30, 0x50],
+        protected: End::Lowest,
     },
     // 8 WF1602
     Line {
         columns: [16, 1048576, 32768, 0x274a, 28, 36000, 140000],
-        beside: [0x5555, 0x2aaa, 32768, 0x30, 0x50, 2],
+        beside: [0x5555, 0x2aaa, 32768, 0x30, 0x50],
+        protected: End::Highest,
     },
     // 9 VF6401B
     Line {
         columns: [16, 4194304, 32768, 0x236d, 7, 18000, 40000],
-        beside: [0x555, 0x2aa, 2048, 0x50, 0x30, 1],
+        beside: [0x555, 0x2aa, 2048, 0x50, 0x30],
+        protected: End::Lowest,
     },
     // 10 VF6402B
     Line {
         columns: [16, 4194304, 32768, 0x236c, 7, 18000, 40000],
-        beside: [0x555, 0x2aa, 2048, 0x50, 0x30, 2],
+        beside: [0x555, 0x2aa, 2048, 0x50, 0x30],
+        protected: End::Highest,
     },
 ];
 
@@ -121,6 +142,7 @@ fn named(line: Line) -> Row
 {
     let c = line.columns;
     let b = line.beside;
+    let protected = line.protected;
     Row {
         width: c[0],
         cells: c[1],
@@ -134,7 +156,7 @@ fn named(line: Line) -> Row
         compared: b[2],
         sector_code: b[3],
         block_code: b[4],
-        protected: b[5],
+        protected,
     }
 }
 
@@ -145,10 +167,11 @@ pub fn part_row(part: u32) -> Found
     if 10 < part {
         let none = Line {
             columns: [0; 7],
-            beside: [0; 6],
+            beside: [0; 5],
+            protected: End::Neither,
         };
         return Found {
-            answer: 1,
+            answer: NO_PART,
             row: named(none),
         };
     }

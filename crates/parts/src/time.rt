@@ -1,5 +1,7 @@
 // Commands: those a part has, their table times, and how many polls they take.
 use crate::Row;
+use crate::names::BLOCK;
+use crate::names::CHIP;
 ghost use mathlib.Core.Path.{_≡_};
 ghost use Rattle.parts.specs.Time.{hasCommand, roundedUp, timeOf};
 
@@ -17,25 +19,25 @@ pub fn rounded_up(time: u32, p: u32) -> u32
 }
 
 impl Row {
-    // Whether the part has a command: 0 program, 1 sector, 2 block (where it has blocks), 3 chip.
+    // Whether the part has a command: block only where it has blocks.
     pub fn has_command(self, command: u32) -> bool
         ensures { λ r. ⌜ r ≡ hasCommand self command ⌝ }
     {
-        if 3 < command {
+        if CHIP < command {
             return false;
         }
-        if command == 2 {
+        if command == BLOCK {
             return self.has_blocks();
         }
         true
     }
 
-    // The table time of a command, 0 program, 1 sector, 2 block, 3 chip; 0 for none of these.
+    // The table time of a command, in the order of their numbers; 0 for none of these.
     pub fn time(self, command: u32) -> u32
         ensures { λ r. ⌜ r ≡ timeOf self command ⌝ }
     {
         let times = [self.program, self.erase, self.erase, self.chip];
-        if 3 < command {
+        if CHIP < command {
             return 0;
         }
         times[command as usize]

@@ -7,13 +7,13 @@ use borrow.Author.Needs.{needs}
 use Rattle.job.specs.declared.run.Held.{Held}
 use Rattle.job.specs.Run.{world}
 use Rattle.job.specs.Loader.{turned}
-use Rattle.job.specs.Kept.{Counts}
+use Rattle.job.specs.Fits.{CountsFit}
 use Rattle.job.proofs.Loop.{endOf, endFrom, counts-up, starts, turns, stopped, passed, one-more}
 use Rattle.job.proofs.run.run.Statement.{statement}
 use Rattle.job.proofs.run.run.Tie as tie
 
 abbrev Inv-loop : tie.InvT-loop
-Inv-loop cells₀ job image k seen₀ held₀ turn₀ cells seen held turn = (held .sent ≤ k) × ((Counts (held .tally) (held .sent)) × ((length cells ≡ length cells₀) × (endOf job image (k - held .sent) (turned seen turn) (world cells held) ≡ endFrom job image cells₀ k)))
+Inv-loop cells₀ job image k seen₀ held₀ turn₀ cells seen held turn = (held .sent ≤ k) × ((CountsFit (held .tally) (held .sent)) × ((length cells ≡ length cells₀) × (endOf job image (k - held .sent) (turned seen turn) (world cells held) ≡ endFrom job image cells₀ k)))
 
 abbrev μ-loop : tie.MeasureT-loop
 μ-loop cells₀ job image k seen₀ held₀ turn₀ cells seen held turn = k - held .sent
@@ -22,7 +22,7 @@ loop-holds : tie.Need-loop-holds Inv-loop μ-loop
 loop-holds c =
     let g = c .before .before .before .before .args in
     let n = c .before .none-sent in
-    let t = c .first-turn in
+    let t = c .next-sector in
     let w = starts (g .job) (g .image .now) (g .k) (t .result) (g .cells .now) (n .result) (n .ensures) (t .ensures) in
     (w .0, (w .1 .0, (refl, w .1 .1)))
 

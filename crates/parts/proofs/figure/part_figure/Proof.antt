@@ -1,7 +1,8 @@
 -- `parts::figure::part_figure` meets its contract.
 use mathlib.Core.Path.{ap, sym}
 use lib.ListN.{getD}
-use borrow.Author.Tests.{lt-ltb, le-ltb}
+use native.Mathlib.Omega.{arith}
+use borrow.Author.Tests.{lt-ltb, le-ltb, ne-eqb}
 use borrow.Author.Needs.{needs}
 use Rattle.parts.specs.Figures.{columns, figure, figureOf}
 use Rattle.parts.specs.declared.table.Found.{Found}
@@ -10,7 +11,8 @@ use Rattle.parts.proofs.figure.part_figure.Tie as tie
 
 returns : tie.Need-returns
 unfolding figureOf
-returns c = let e = ap (λ (f : Found). f .answer) (c .before .before .part-row .ensures) in simp (sym e, lt-ltb _ _ (c .before .if1 .taken), c .refused .ensures)
+returns c = let e = ap (λ (f : Found). f .answer) (c .before .before .part-row .ensures) in
+    simp (sym e, lt-ltb _ _ (c .before .if1 .taken), ne-eqb (c .before .before .part-row .result .answer) 0 (λ z. omega arith), c .refused .ensures)
 
 returns-2 : tie.Need-returns-2
 unfolding figureOf

@@ -32,7 +32,7 @@ returns-2 c = let g = c .before .before .before .before .before .before .before 
     let e : g .base + g .self .size - (g .base + g .at) ≡ g .self .size - g .at = omega arith in
     let b : c .before .before .before .before .before .blank .result ≡ blankOf (g .self .row .width) = c .before .before .before .before .before .blank .ensures ∙ blank-word _ (c .before .before .before .before .before .before .before .before .before .pre .0 .narrow) in
     let m : nextMark (g .self) (g .image .now) (g .base) (g .at) ≡ g .at + c .before .before .before .before .leading .result = ap (λ (n : ℕ). g .at + n) (sym (rw (e, b) at (c .before .before .before .before .leading .ensures))) in
-    simp (m, le-ltb _ _ (c .before .before .if1 .left)) (c .first-turn .ensures)
+    simp (m, le-ltb _ _ (c .before .before .if1 .left)) (c .next-sector .ensures)
 
 pub fill-spec : {M : Type 1} → statement M
 fill-spec =

@@ -11,7 +11,7 @@ returns c = simp (lt-ltb _ _ (c .before .if1 .taken)) (c .reads-cell .ensures)
 
 returns-2 : tie.Need-returns-2
 unfolding lookOf
-returns-2 c = simp (le-ltb _ _ (c .before .before .if1 .left)) (c .first-turn .ensures)
+returns-2 c = simp (le-ltb _ _ (c .before .before .if1 .left)) (c .next-sector .ensures)
 
 pub look-spec : {M : Type 1} → statement M
 look-spec =

@@ -5,7 +5,7 @@ use Rattle.job.specs.declared.loader.Job.{Job}
 use Rattle.job.specs.declared.run.Tally.{Tally}
 
 -- n image values; the range's addresses and a sector's cells are in bounds; the width is a part's
-pub record Kept (j : Job) (n : ℕ) : Type 0 where
+pub record JobFits (j : Job) (n : ℕ) : Type 0 where
   pub count : j .count ≡ n
   pub range : j .first + j .count ≤ 4194304
   pub some : 0 < j .size
@@ -13,7 +13,7 @@ pub record Kept (j : Job) (n : ℕ) : Type 0 where
   pub narrow : j .row .width ≤ 16
 
 -- counts of n cycles: none above n, and their µs
-pub record Counts (t : Tally) (n : ℕ) : Type 0 where
+pub record CountsFit (t : Tally) (n : ℕ) : Type 0 where
   pub erases : t .erases ≤ n
   pub programs : t .programs ≤ n
   pub polls : t .polls ≤ n

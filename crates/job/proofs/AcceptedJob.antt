@@ -16,7 +16,7 @@ use Rattle.driver.proofs.Asked.{beginning}
 use Rattle.job.specs.declared.loader.Job.{Job}
 use Rattle.job.specs.Refusal.{fitAll}
 
-pub record Right (j : Job) (image : List ℕ) : Type 0 where
+pub record AcceptedJob (j : Job) (image : List ℕ) : Type 0 where
   pub known : partRefusal (j .part) ≡ 0
   pub row : j .row ≡ rowOf (j .part)
   pub size : j .size ≡ sectorSize (rowOf (j .part) .width)
@@ -37,7 +37,7 @@ fit-at w [] e i h = absurd (not-suc-le-zero h)
 fit-at w (x ∷ xs) e zero h = both (fitsIn w x) (fitAll w xs) e .0
 fit-at w (x ∷ xs) e (suc i) h = fit-at w xs (both (fitsIn w x) (fitAll w xs) e .1) i (le-of-suc-le-suc h)
 
-module _ (j : Job) (image : List ℕ) (R : Right j image) where
+module _ (j : Job) (image : List ℕ) (R : AcceptedJob j image) where
   -- the driver of a program of a value of the image, and of a sector erase, starts
   pub program-starts : (a k : ℕ) → a < rowOf (j .part) .cells → k < length image → startRefusal (j .part) 0 a (getD image k 0) (j .p) ≡ 0
   unfolding hasCommand

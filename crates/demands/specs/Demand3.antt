@@ -1,0 +1,34 @@
+-- Demand 3, the invoice. For every accepted job on an idle chip with no power cut: the range ends holding the image, no
+-- other cell has changed; the bill's erases, programs, polls, scans, confirming reads and time are those of the cycles sent
+-- and follow the formulas; and no list of bus cycles does it in less.
+use Prim.Native.Nat.{ℕ, _+_, _*_, _≤_}
+use mathlib.Core.Path.{_≡_}
+use mathlib.Core.List.{List}
+use Rattle.parts.specs.Names.{PROGRAM, SECTOR}
+use Rattle.parts.specs.Table.{rowOf}
+use Rattle.parts.specs.Time.{timeOf}
+use Rattle.chip.specs.declared.device.Device.{Device}
+use Rattle.chip.specs.declared.cycle.Cycle.{Cycle}
+use Rattle.chip.specs.Cycle.{chip}
+use Rattle.chip.specs.Trace.{startedIn}
+use Rattle.invoice.specs.Started.{tableTime}
+use Rattle.invoice.specs.Invoice.{Invoice, Partly, Rival}
+use Rattle.demands.specs.Calls.{LoadCall, toLoad, loadLeft, LoadFirstCall, toLoadFirst, loadFirstLeft, refusedJob}
+
+pub record Demand3 : Type 0 where
+  -- The range holds the image and no other cell has changed; the bill's erases and programs are the operations that the
+  -- cycles sent start; polls, spent, scans, confirms, saved and sum follow the formulas; the answer is 0. The lines of
+  -- `Invoice` say each of these.
+  pub load-bills : (c : LoadCall) → let j = toLoad c in refusedJob j ≡ 0
+      → Invoice (j .part) (j .cells) (j .first) (j .image) (j .wp) (j .p) (loadLeft c)
+  -- No rival, that is no list of bus cycles from the same cells and any idle device, at any WP# levels and times, without
+  -- cut, block or chip erase, that ends idle with the image in the range, starts operations whose table times add up to
+  -- less than those of the bill's erases and programs.
+  pub no-rival-is-quicker : (c : LoadCall) → let j = toLoad c in refusedJob j ≡ 0
+      → (d : Device) (cs : List Cycle) → Rival (j .part) (j .cells) (j .first) (j .image) d cs
+      → c .back .erases * timeOf (rowOf (j .part)) SECTOR + c .back .programs * timeOf (rowOf (j .part)) PROGRAM
+      ≤ tableTime (rowOf (j .part)) (startedIn (j .part) (chip (j .cells) d) cs)
+  -- The second call leaves the cells as the first k of the job's bus cycles leave them, all if fewer; and its polls, reads
+  -- and time are those of these cycles.
+  pub load-first-plays : (c : LoadFirstCall) → let j = toLoadFirst c .job in refusedJob j ≡ 0
+      → Partly (j .part) (j .cells) (j .first) (j .image) (j .wp) (j .p) (toLoadFirst c .k) (loadFirstLeft c)

@@ -1,0 +1,124 @@
+-- For every input a promise determines the full result and each lent value afterwards, refusals too: of each exported
+-- function, any two outcomes that its promise allows on the same arguments are equal. On the promises as they are made from
+-- the source.
+use Prim.Native.Nat.{ℕ}
+use mathlib.Core.Path.{_≡_}
+use mathlib.Core.List.{List}
+use contract.Lifetimes.{Lfts}
+use borrow.Fn.Kinds.{PK, RK, Out, Dens, endedOf, resT}
+use denote.Triple.Clauses.{AtExit}
+use Rattle.parts.proofs.value.Kinds as value-kinds
+use Rattle.parts.proofs.value.Reads as value-reads
+use Rattle.parts.proofs.blank.Kinds as blank-kinds
+use Rattle.parts.proofs.blank.Reads as blank-reads
+use Rattle.parts.proofs.fits.Kinds as fits-kinds
+use Rattle.parts.proofs.fits.Reads as fits-reads
+use Rattle.parts.proofs.part_row.Kinds as part-row-kinds
+use Rattle.parts.proofs.part_row.Reads as part-row-reads
+use Rattle.parts.proofs.part_figure.Kinds as part-figure-kinds
+use Rattle.parts.proofs.part_figure.Reads as part-figure-reads
+use Rattle.parts.proofs.span.Span.holds.Kinds as span-holds-kinds
+use Rattle.parts.proofs.span.Span.holds.Reads as span-holds-reads
+use Rattle.parts.proofs.table.Row.sector_size.Kinds as sector-size-kinds
+use Rattle.parts.proofs.table.Row.sector_size.Reads as sector-size-reads
+use Rattle.parts.proofs.table.Row.sector_of.Kinds as sector-of-kinds
+use Rattle.parts.proofs.table.Row.sector_of.Reads as sector-of-reads
+use Rattle.parts.proofs.table.Row.has_blocks.Kinds as has-blocks-kinds
+use Rattle.parts.proofs.table.Row.has_blocks.Reads as has-blocks-reads
+use Rattle.parts.proofs.table.Row.block_of.Kinds as block-of-kinds
+use Rattle.parts.proofs.table.Row.block_of.Reads as block-of-reads
+use Rattle.parts.proofs.table.Row.protected_range.Kinds as protected-range-kinds
+use Rattle.parts.proofs.table.Row.protected_range.Reads as protected-range-reads
+use Rattle.parts.proofs.table.Row.time.Kinds as time-kinds
+use Rattle.parts.proofs.table.Row.time.Reads as time-reads
+use Rattle.parts.proofs.table.Row.has_command.Kinds as has-command-kinds
+use Rattle.parts.proofs.table.Row.has_command.Reads as has-command-reads
+use Rattle.parts.proofs.rounded_up.Kinds as rounded-up-kinds
+use Rattle.parts.proofs.rounded_up.Reads as rounded-up-reads
+use Rattle.commands.proofs.effect_of.Kinds as effect-of-kinds
+use Rattle.commands.proofs.effect_of.Reads as effect-of-reads
+use Rattle.chip.proofs.fresh.Kinds as fresh-kinds
+use Rattle.chip.proofs.fresh.Reads as fresh-reads
+use Rattle.chip.proofs.bus_cycle.Kinds as bus-cycle-kinds
+use Rattle.chip.proofs.bus_cycle.Reads as bus-cycle-reads
+use Rattle.driver.proofs.start.Kinds as start-kinds
+use Rattle.driver.proofs.start.Reads as start-reads
+use Rattle.driver.proofs.start_writing.Kinds as start-writing-kinds
+use Rattle.driver.proofs.start_writing.Reads as start-writing-reads
+use Rattle.driver.proofs.machine.Driver.step.Kinds as step-kinds
+use Rattle.driver.proofs.machine.Driver.step.Reads as step-reads
+use Rattle.driver.proofs.command_writes.Kinds as command-writes-kinds
+use Rattle.driver.proofs.command_writes.Reads as command-writes-reads
+use Rattle.driver.proofs.kth_write.Kinds as kth-write-kinds
+use Rattle.driver.proofs.kth_write.Reads as kth-write-reads
+use Rattle.job.proofs.load.Kinds as load-kinds
+use Rattle.job.proofs.load.Reads as load-reads
+use Rattle.job.proofs.load_first.Kinds as load-first-kinds
+use Rattle.job.proofs.load_first.Reads as load-first-reads
+use Rattle.jobfile.proofs.read_job.Kinds as read-job-kinds
+use Rattle.jobfile.proofs.read_job.Reads as read-job-reads
+use Rattle.jobfile.proofs.read_image.Kinds as read-image-kinds
+use Rattle.jobfile.proofs.read_image.Reads as read-image-reads
+use Rattle.station.proofs.station_figure.Kinds as c-figure-kinds
+use Rattle.station.proofs.station_figure.Reads as c-figure-reads
+use Rattle.station.proofs.station_figure_answer.Kinds as c-answer-kinds
+use Rattle.station.proofs.station_figure_answer.Reads as c-answer-reads
+use Rattle.station.proofs.station_write_address.Kinds as c-address-kinds
+use Rattle.station.proofs.station_write_address.Reads as c-address-reads
+use Rattle.station.proofs.station_write_data.Kinds as c-data-kinds
+use Rattle.station.proofs.station_write_data.Reads as c-data-reads
+use Rattle.station.proofs.station_write_answer.Kinds as c-write-kinds
+use Rattle.station.proofs.station_write_answer.Reads as c-write-reads
+
+-- any two results that the promise allows are equal
+abbrev pub OneResult : (n : ℕ) (ps : List (PK n)) (r : RK n) → Out n ps r → Type 0
+OneResult n ps r Post =
+    (κs : Lfts n) (a : Dens κs ps) (x y : resT r κs .Denot) (s t : AtExit (endedOf n ps r) κs)
+    → Post κs a x s → Post κs a y t → x ≡ y
+
+-- and so is what the lent slice holds afterwards
+abbrev pub OneOutcome : (n : ℕ) (ps : List (PK n)) (r : RK n) → Out n ps r
+    → ((κs : Lfts n) → AtExit (endedOf n ps r) κs → List ℕ) → Type 0
+OneOutcome n ps r Post held =
+    (κs : Lfts n) (a : Dens κs ps) (x y : resT r κs .Denot) (s t : AtExit (endedOf n ps r) κs)
+    → Post κs a x s → Post κs a y t → (x ≡ y) × (held κs s ≡ held κs t)
+
+pub record Unique : Type 0 where
+  -- the part table
+  pub value : OneResult 0 value-kinds.ps value-kinds.r value-reads.Post
+  pub blank : OneResult 0 blank-kinds.ps blank-kinds.r blank-reads.Post
+  pub fits : OneResult 0 fits-kinds.ps fits-kinds.r fits-reads.Post
+  pub part-row : OneResult 0 part-row-kinds.ps part-row-kinds.r part-row-reads.Post
+  pub part-figure : OneResult 0 part-figure-kinds.ps part-figure-kinds.r part-figure-reads.Post
+  pub span-holds : OneResult 0 span-holds-kinds.ps span-holds-kinds.r span-holds-reads.Post
+  pub sector-size : OneResult 0 sector-size-kinds.ps sector-size-kinds.r sector-size-reads.Post
+  pub sector-of : OneResult 0 sector-of-kinds.ps sector-of-kinds.r sector-of-reads.Post
+  pub has-blocks : OneResult 0 has-blocks-kinds.ps has-blocks-kinds.r has-blocks-reads.Post
+  pub block-of : OneResult 0 block-of-kinds.ps block-of-kinds.r block-of-reads.Post
+  pub protected-range : OneResult 0 protected-range-kinds.ps protected-range-kinds.r protected-range-reads.Post
+  pub time : OneResult 0 time-kinds.ps time-kinds.r time-reads.Post
+  pub has-command : OneResult 0 has-command-kinds.ps has-command-kinds.r has-command-reads.Post
+  pub rounded-up : OneResult 0 rounded-up-kinds.ps rounded-up-kinds.r rounded-up-reads.Post
+  -- the table of commands
+  pub effect-of : OneResult 0 effect-of-kinds.ps effect-of-kinds.r effect-of-reads.Post
+  -- the chip
+  pub fresh : OneResult 0 fresh-kinds.ps fresh-kinds.r fresh-reads.Post
+  pub bus-cycle : OneOutcome 1 bus-cycle-kinds.ps bus-cycle-kinds.r bus-cycle-reads.Post (λ κs s. s .1 .0 .now)
+  -- the driver
+  pub start : OneResult 0 start-kinds.ps start-kinds.r start-reads.Post
+  pub start-writing : OneResult 0 start-writing-kinds.ps start-writing-kinds.r start-writing-reads.Post
+  pub step : OneResult 0 step-kinds.ps step-kinds.r step-reads.Post
+  pub command-writes : OneResult 0 command-writes-kinds.ps command-writes-kinds.r command-writes-reads.Post
+  pub kth-write : OneResult 0 kth-write-kinds.ps kth-write-kinds.r kth-write-reads.Post
+  -- the job
+  pub load : OneOutcome 2 load-kinds.ps load-kinds.r load-reads.Post (λ κs s. s .1 .0 .now)
+  pub load-first : OneOutcome 2 load-first-kinds.ps load-first-kinds.r load-first-reads.Post (λ κs s. s .1 .0 .now)
+  -- the job file
+  pub read-job : OneResult 1 read-job-kinds.ps read-job-kinds.r read-job-reads.Post
+  pub read-image : OneOutcome 2 read-image-kinds.ps read-image-kinds.r read-image-reads.Post (λ κs s. s .1 .1 .0 .now)
+  -- the C controller
+  pub station-figure : OneResult 0 c-figure-kinds.ps c-figure-kinds.r c-figure-reads.Post
+  pub station-figure-answer : OneResult 0 c-answer-kinds.ps c-answer-kinds.r c-answer-reads.Post
+  pub station-write-address : OneResult 0 c-address-kinds.ps c-address-kinds.r c-address-reads.Post
+  pub station-write-data : OneResult 0 c-data-kinds.ps c-data-kinds.r c-data-reads.Post
+  pub station-write-answer : OneResult 0 c-write-kinds.ps c-write-kinds.r c-write-reads.Post
