@@ -11,8 +11,8 @@ ghost use Rattle.chip.specs.Device.{atRest, busy, busyWith, coreInRange,
 pub struct Operation {
     pub kind: u32,
     pub address: u32,
-    pub data: u16,
     pub left: u32,
+    pub data: u16,
     pub toggle: bool,
 }
 
