@@ -29,10 +29,12 @@ use Rattle.driver.specs.Refusals.{startRefusal}
 use Rattle.driver.specs.Writes.{noWrite, commandWrites, kth, kthRefusal, kthWrite}
 use Rattle.driver.specs.Machine.{valueWanted, noDriver, startOf, startWriting, mostPolls, inRange, step, ended, writingOf, polls, matches, pollingOf, confirmingOf, phaseOf, stepOf}
 use Rattle.driver.proofs.Begins.{start-range}
-use Rattle.job.specs.Bill.{Loaded, Reported, loadOf, reportOf}
+use Rattle.job.specs.declared.bill.Bill.{Bill}
+use Rattle.job.specs.Bill.{Loaded, Reported, refusedBill, loadOf, reportOf}
 use Rattle.jobfile.specs.declared.trailer.JobFile.{JobFile}
 use Rattle.jobfile.specs.JobFile.{malformed, trailerOf, refused, asked, jobOf}
-use Rattle.demands.specs.Calls.{BusCall, onBus, refusedCycle, StepCall, toStep, refusedStart, toStart, refusedWrites, toWrite, kthAsked, refusedJob, toLoad, toLoadFirst, rowAsked, figureAsked, toRead}
+use Rattle.billing.specs.File.{billOfJob, billOfFile}
+use Rattle.demands.specs.Calls.{BusCall, onBus, refusedCycle, StepCall, toStep, refusedStart, toStart, refusedWrites, toWrite, kthAsked, refusedJob, toLoad, toLoadFirst, rowAsked, figureAsked, toRead, ToRead, toBill, jobAsked, refusedFile}
 use Rattle.demands.specs.Demand1.{Refuses, RefusesState, Demand1}
 
 -- one test decides: what is handed back where it passes answers 0
@@ -113,6 +115,26 @@ files-refuse file = by (malformed file)
     by true = record { exactly = refl; beside = λ e. refl }
     by false = record { exactly = refl; beside = λ e. absurd (e refl) }
 
+-- ---- the bill of a job file
+bills-refuse : (g : ToRead) → Refuses Bill (billOfFile (g .file) .answer) (refusedFile g) (billOfFile (g .file)) (refusedBill (refusedFile g))
+unfolding billOfFile loadOf
+bills-refuse g = by (ltb 20480 (length (g .file))) (malformed (g .file))
+  where
+    n : ℕ
+    n = refusedJob (jobAsked g)
+
+    job : Bill
+    job = billOfJob (g .file) (jobOf (g .file))
+
+    by : (t u : Bool)
+        → Refuses Bill (pick t (refusedBill 13) (pick u (refusedBill 13) job) .answer) (pick t 13 (pick u 13 n)) (pick t (refusedBill 13) (pick u (refusedBill 13) job))
+        (refusedBill (pick t 13 (pick u 13 n)))
+    by true u = record { exactly = refl; beside = λ e. refl }
+    by false true = record { exactly = refl; beside = λ e. refl }
+    by false false =
+        let w = by-test (λ (l : Loaded). l .bill .answer) n _ _ refl refl in
+        record { exactly = w .exactly; beside = λ e. ap (λ (l : Loaded). l .bill) (w .beside e) }
+
 -- ---- together
 pub demand-1 : Demand1
 unfolding cycleOf acceptedOf startOf commandWrites loadOf reportOf
@@ -131,6 +153,7 @@ demand-1 =
       row-refuses = λ c. rw (c .promise) (rows-refuse (rowAsked c .part));
       figure-refuses = λ c. let g = figureAsked (c .given) in rw (c .promise) (figures-refuse (g .part) (g .column));
       file-refuses = λ c. rw (c .promise) (files-refuse (toRead c .file));
+      bill-file-refuses = λ c. rw (c .promise) (bills-refuse (toBill c));
       station-figure-refuses = λ c e. let g = figureAsked (c .given) in c .promise ∙ ap (λ (f : Figure). f .value) (figures-refuse (g .part) (g .column) .beside e);
       station-figure-answers = λ c. let g = figureAsked (c .given) in c .promise ∙ figures-refuse (g .part) (g .column) .exactly;
       station-write-address-refuses = λ c e. let g = kthAsked (c .given) in c .promise ∙ ap (λ (k : Kth). k .address) (kth-refuses (g .part) (g .command) (g .address) (g .word) (g .k) .beside e);

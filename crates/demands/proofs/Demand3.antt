@@ -1,7 +1,35 @@
 -- Demand 3 is met. What is proved stands in specs/Demand3.antt.
+use Prim.Native.Nat.{ℕ}
+use mathlib.Core.Path.{_≡_, refl, _∙_}
+use mathlib.Core.Bool.{Bool, true, false}
+use native.Mathlib.Omega.{arith}
+use lib.Dec.{ltb}
+use lib.ListN.{length}
+use Rattle.parts.specs.Pick.{pick}
+use Rattle.job.specs.Bill.{Loaded, loadOf, refusedBill}
+use Rattle.jobfile.specs.JobFile.{malformed}
+use Rattle.billing.specs.File.{billOfFile}
 use Rattle.invoice.proofs.Billed.{invoice, partly, least, table-time}
-use Rattle.demands.specs.Calls.{toLoad, toLoadFirst}
+use Rattle.demands.specs.Calls.{ToLoad, toLoad, toLoadFirst, refusedJob, ToRead, toBill, jobAsked, refusedFile}
 use Rattle.demands.specs.Demand3.{Demand3}
+
+-- a file that is not refused: its job is not, and its bill is the job's
+module _ (g : ToRead) where
+  abbrev j : ToLoad
+  j = jobAsked g
+
+  abbrev done : Loaded
+  done = loadOf (j .part) (j .cells) (j .first) (j .image) (j .wp) (j .p)
+
+  taken : refusedFile g ≡ 0 → (refusedJob j ≡ 0) × (billOfFile (g .file) ≡ done .bill)
+  unfolding billOfFile
+  taken = by (ltb 20480 (length (g .file))) (malformed (g .file))
+    where
+      by : (t u : Bool) → pick t 13 (pick u 13 (refusedJob j)) ≡ 0
+          → (refusedJob j ≡ 0) × (pick t (refusedBill 13) (pick u (refusedBill 13) (done .bill)) ≡ done .bill)
+      by true u e = absurd (omega arith)
+      by false true e = absurd (omega arith)
+      by false false e = (e, refl)
 
 pub demand-3 : Demand3
 demand-3 =
@@ -13,4 +41,7 @@ demand-3 =
           (least (j .part) (j .cells) (j .first) (j .image) (j .wp) (j .p) accepted d cs rival);
       load-first-plays = λ c accepted. let j = toLoadFirst c .job in
           rw (c .promise .0, c .promise .1) (partly (j .part) (j .cells) (j .first) (j .image) (j .wp) (j .p) accepted (toLoadFirst c .k));
+      bill-file-bills = λ c accepted. let j = jobAsked (toBill c) in
+          let w = taken (toBill c) accepted in
+          rw (c .promise ∙ w .1) (invoice (j .part) (j .cells) (j .first) (j .image) (j .wp) (j .p) (w .0));
     }

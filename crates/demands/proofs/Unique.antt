@@ -5,6 +5,7 @@ use Rattle.chip.proofs.Determined as chip
 use Rattle.driver.proofs.Determined as driver
 use Rattle.job.proofs.Determined as job
 use Rattle.jobfile.proofs.Determined as jobfile
+use Rattle.billing.proofs.Determined as billing
 use Rattle.station.proofs.Determined as station
 use Rattle.demands.specs.Unique.{Unique}
 
@@ -38,6 +39,7 @@ unique =
       load-first = job.load-first-unique;
       read-job = jobfile.read-job-unique;
       read-image = jobfile.read-image-unique;
+      bill-file = billing.bill-file-unique;
       station-figure = station.figure-unique;
       station-figure-answer = station.answer-unique;
       station-write-address = station.write-address-unique;

@@ -5,9 +5,12 @@ use Prim.Native.Nat.{ℕ}
 use mathlib.Core.Bool.{Bool}
 use mathlib.Core.List.{List}
 use lib.ListN.{length}
+use lib.Dec.{ltb}
 use contract.Lifetimes.{Lfts}
 use borrow.Fn.Kinds.{PK, RK, Out, Dens, endedOf, resT}
 use denote.Triple.Clauses.{AtExit}
+use Rattle.parts.specs.Names.{BAD-FILE}
+use Rattle.parts.specs.Pick.{pick, _when_, _else_}
 use Rattle.parts.specs.Figures.{figureRefusal}
 use Rattle.parts.proofs.part_row.Kinds as row-kinds
 use Rattle.parts.proofs.part_row.Reads as row-reads
@@ -37,8 +40,12 @@ use Rattle.job.proofs.load.Kinds as load-kinds
 use Rattle.job.proofs.load.Reads as load-reads
 use Rattle.job.proofs.load_first.Kinds as first-kinds
 use Rattle.job.proofs.load_first.Reads as first-reads
+use Rattle.jobfile.specs.JobFile.{malformed, jobOf, valuesOf}
 use Rattle.jobfile.proofs.read_job.Kinds as file-kinds
 use Rattle.jobfile.proofs.read_job.Reads as file-reads
+use Rattle.billing.specs.File.{blankBench}
+use Rattle.billing.proofs.bill_file.Kinds as bill-file-kinds
+use Rattle.billing.proofs.bill_file.Reads as bill-file-reads
 use Rattle.station.proofs.station_figure.Kinds as c-figure-kinds
 use Rattle.station.proofs.station_figure.Reads as c-figure-reads
 use Rattle.station.proofs.station_figure_answer.Kinds as c-answer-kinds
@@ -255,3 +262,30 @@ pub record ToRead : Type 0 where
 
 abbrev pub toRead : FileCall → ToRead
 toRead c = record { file = c .given .0 .now }
+
+-- ---- bill_file(file)
+abbrev pub BillFileCall : Type 0
+BillFileCall = Call 1 bill-file-kinds.ps bill-file-kinds.r bill-file-reads.Post
+
+abbrev pub toBill : BillFileCall → ToRead
+toBill c = record { file = c .given .0 .now }
+
+-- the job that a file asks for, on a blank bench part
+abbrev pub jobAsked : ToRead → ToLoad
+jobAsked g =
+    let j = jobOf (g .file) in
+    record {
+      part = j .part;
+      cells = blankBench;
+      first = j .first;
+      image = valuesOf (g .file) (j .start) (j .count);
+      wp = j .wp;
+      p = j .p;
+    }
+
+-- its refusal: 13 for a file of more than 20,480 bytes, or malformed; then the job's own
+abbrev pub refusedFile : ToRead → ℕ
+refusedFile g =
+    BAD-FILE when ltb 20480 (length (g .file))
+    else BAD-FILE when malformed (g .file)
+    else refusedJob (jobAsked g)

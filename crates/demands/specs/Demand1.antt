@@ -21,10 +21,11 @@ use Rattle.driver.specs.declared.writes.Writes.{Writes}
 use Rattle.driver.specs.declared.writes.Kth.{Kth}
 use Rattle.driver.specs.Writes.{noWrite, writes, kth}
 use Rattle.driver.specs.Machine.{noDriver, inRange, step}
+use Rattle.job.specs.declared.bill.Bill.{Bill}
 use Rattle.job.specs.Bill.{Loaded, Reported, refusedBill, refusedReport}
 use Rattle.jobfile.specs.declared.trailer.JobFile.{JobFile}
 use Rattle.jobfile.specs.JobFile.{malformed, refused}
-use Rattle.demands.specs.Calls.{BusCall, onBus, busLeft, refusedCycle, StartCall, StartWritingCall, toStart, refusedStart, StepCall, toStep, WritesCall, toWrite, refusedWrites, KthCall, StationAddressCall, StationDataCall, StationWriteCall, kthAsked, refusedKth, LoadCall, LoadFirstCall, toLoad, toLoadFirst, loadLeft, loadFirstLeft, refusedJob, RowCall, rowAsked, FigureCall, StationFigureCall, StationFigureAnswerCall, figureAsked, refusedFigure, FileCall, toRead}
+use Rattle.demands.specs.Calls.{BusCall, onBus, busLeft, refusedCycle, StartCall, StartWritingCall, toStart, refusedStart, StepCall, toStep, WritesCall, toWrite, refusedWrites, KthCall, StationAddressCall, StationDataCall, StationWriteCall, kthAsked, refusedKth, LoadCall, LoadFirstCall, toLoad, toLoadFirst, loadLeft, loadFirstLeft, refusedJob, RowCall, rowAsked, FigureCall, StationFigureCall, StationFigureAnswerCall, figureAsked, refusedFigure, FileCall, toRead, BillFileCall, toBill, refusedFile}
 
 -- a call answers n, and where n is a refusal hands back what it should
 pub record Refuses (A : Type 0) (answer n : ℕ) (back should : A) : Type 0 where
@@ -69,6 +70,9 @@ pub record Demand1 : Type 0 where
   -- A job file: 13 exactly for a malformed one, with zeros beside it.
   pub file-refuses : (c : FileCall) → let n = BAD-FILE when malformed (toRead c .file) else 0 in
       Refuses JobFile (c .back .answer) n (c .back) refused
+  -- A job file's bill: 13 exactly for a file that is too long or malformed, then the job's own refusals on a blank bench part.
+  pub bill-file-refuses : (c : BillFileCall) → let n = refusedFile (toBill c) in
+      Refuses Bill (c .back .answer) n (c .back) (refusedBill n)
   -- The C controller's functions: the answer is the number, and the number asked for is 0 beside a refusal.
   pub station-figure-refuses : (c : StationFigureCall) → (refusedFigure (figureAsked (c .given)) ≡ 0 → ⊥) → c .back ≡ 0
   pub station-figure-answers : (c : StationFigureAnswerCall) → c .back ≡ refusedFigure (figureAsked (c .given))

@@ -11,9 +11,15 @@ use Rattle.chip.specs.declared.device.Device.{Device}
 use Rattle.chip.specs.declared.cycle.Cycle.{Cycle}
 use Rattle.chip.specs.Cycle.{chip}
 use Rattle.chip.specs.Trace.{startedIn}
+use Rattle.job.specs.declared.bill.Bill.{Bill}
+use Rattle.job.specs.Bill.{Loaded, loadOf}
 use Rattle.invoice.specs.Started.{tableTime}
 use Rattle.invoice.specs.Invoice.{Invoice, Partly, Rival}
-use Rattle.demands.specs.Calls.{LoadCall, toLoad, loadLeft, LoadFirstCall, toLoadFirst, loadFirstLeft, refusedJob}
+use Rattle.demands.specs.Calls.{LoadCall, toLoad, loadLeft, LoadFirstCall, toLoadFirst, loadFirstLeft, refusedJob, BillFileCall, toBill, jobAsked, refusedFile}
+
+-- what a job leaves on the cells, beside a bill
+abbrev pub withBill : Bill → Loaded → Loaded
+withBill b l = record { cells = l .cells; bill = b }
 
 pub record Demand3 : Type 0 where
   -- The range holds the image and no other cell has changed; the bill's erases and programs are the operations that the
@@ -32,3 +38,6 @@ pub record Demand3 : Type 0 where
   -- and time are those of these cycles.
   pub load-first-plays : (c : LoadFirstCall) → let j = toLoadFirst c .job in refusedJob j ≡ 0
       → Partly (j .part) (j .cells) (j .first) (j .image) (j .wp) (j .p) (toLoadFirst c .k) (loadFirstLeft c)
+  -- A job file's bill is that of the job that it asks for, on a blank bench part.
+  pub bill-file-bills : (c : BillFileCall) → let j = jobAsked (toBill c) in refusedFile (toBill c) ≡ 0
+      → Invoice (j .part) (j .cells) (j .first) (j .image) (j .wp) (j .p) (withBill (c .back) (loadOf (j .part) (j .cells) (j .first) (j .image) (j .wp) (j .p)))

@@ -61,6 +61,8 @@ use Rattle.jobfile.proofs.read_job.Kinds as read-job-kinds
 use Rattle.jobfile.proofs.read_job.Reads as read-job-reads
 use Rattle.jobfile.proofs.read_image.Kinds as read-image-kinds
 use Rattle.jobfile.proofs.read_image.Reads as read-image-reads
+use Rattle.billing.proofs.bill_file.Kinds as bill-file-kinds
+use Rattle.billing.proofs.bill_file.Reads as bill-file-reads
 use Rattle.station.proofs.station_figure.Kinds as c-figure-kinds
 use Rattle.station.proofs.station_figure.Reads as c-figure-reads
 use Rattle.station.proofs.station_figure_answer.Kinds as c-answer-kinds
@@ -119,6 +121,8 @@ pub record Unique : Type 0 where
   -- the job file
   pub read-job : OneResult 1 read-job-kinds.ps read-job-kinds.r read-job-reads.Post
   pub read-image : OneOutcome 2 read-image-kinds.ps read-image-kinds.r read-image-reads.Post (λ κs s. s .1 .1 .0 .now)
+  -- the bill of a job file
+  pub bill-file : OneResult 1 bill-file-kinds.ps bill-file-kinds.r bill-file-reads.Post
   -- the C controller
   pub station-figure : OneResult 0 c-figure-kinds.ps c-figure-kinds.r c-figure-reads.Post
   pub station-figure-answer : OneResult 0 c-answer-kinds.ps c-answer-kinds.r c-answer-reads.Post
