@@ -3,7 +3,7 @@
 use Prim.Native.Nat.{ℕ}
 use mathlib.Core.Path.{_≡_, refl, ap, _∙_}
 use mathlib.Core.Bool.{Bool, true, false}
-use mathlib.Core.List.{List, [], _∷_}
+use mathlib.Core.List.{List, [], _∷_, _++_}
 use borrow.Author.Tests.{eqb-true}
 use lib.Dec.{eqb}
 use lib.ListN.{length, set, replicate, length-set, length-replicate}
@@ -29,6 +29,7 @@ use Rattle.job.specs.Bill.{jobFrom, fullOf, Loaded}
 use Rattle.invoice.proofs.Listed.{filling, looking}
 use Rattle.invoice.proofs.Loads.{deciding, decidingAll, reckoned, loads}
 use Rattle.demands.specs.Marked.{Cell, Case, Marked, Bus, Load, Ran, cases, holding, imageOf, blankBench, loadSixth, afterJobs, sameBill, further, ran, asSaid, before, holdsCase, holdsMarked}
+use Rattle.demands.specs.Beside.{sheets, shownAll, protectedEnds, comparedBits, sentences}
 use Rattle.chip.proofs.Ranges.{after-length}
 
 -- a cycle on cells that are known to be n
@@ -126,3 +127,30 @@ computed = refl
 -- Every marked case of the list holds of the definitions that the promises of bus_cycle and load cite.
 pub marked : every holdsMarked cases ≡ true
 marked = on-every cases computed
+
+-- ---- the cases beside
+on-cases : (ks : List Case) → every holdsOn ks ≡ true → every holdsCase ks ≡ true
+on-cases [] c = refl
+on-cases (k ∷ ks) c = let b = both (holdsOn k) (every holdsOn ks) c in rw (on-case k ∙ b .0) (on-cases ks (b .1))
+
+computed-sheets : every holdsOn (shownAll sheets) ≡ true
+unfolding holdsOn ranOn cycleOn rowOf partRefusal fitsIn sectorSize holdsb hasBlocks sectorOf blockOf protectedOf hasCommand timeOf validOperation coreInRange stageInRange deviceInRange cellsOf completeOn cutOn effectOf ignored writtenOf actionRefusal cycleRefusal settledOf readOf cutOf acceptedOf
+computed-sheets = refl
+
+computed-ends : every holdsOn (protectedEnds ++ comparedBits) ≡ true
+unfolding holdsOn ranOn cycleOn rowOf partRefusal fitsIn sectorSize holdsb hasBlocks sectorOf blockOf protectedOf hasCommand timeOf validOperation coreInRange stageInRange deviceInRange cellsOf completeOn cutOn effectOf ignored writtenOf actionRefusal cycleRefusal settledOf readOf cutOf acceptedOf
+computed-ends = refl
+
+computed-sentences : every holdsOn sentences ≡ true
+unfolding holdsOn ranOn cycleOn rowOf partRefusal fitsIn sectorSize holdsb hasBlocks sectorOf blockOf protectedOf hasCommand timeOf validOperation coreInRange stageInRange deviceInRange cellsOf completeOn cutOn effectOf ignored writtenOf actionRefusal cycleRefusal settledOf readOf cutOf acceptedOf
+computed-sentences = refl
+
+-- The part table, entry by entry, as the chip shows it; both ends of the protected blocks and the compared bits; and sentences that no marked case touches.
+pub sheets-shown : every holdsCase (shownAll sheets) ≡ true
+sheets-shown = on-cases (shownAll sheets) computed-sheets
+
+pub ends-shown : every holdsCase (protectedEnds ++ comparedBits) ≡ true
+ends-shown = on-cases (protectedEnds ++ comparedBits) computed-ends
+
+pub sentences-shown : every holdsCase sentences ≡ true
+sentences-shown = on-cases sentences computed-sentences

@@ -1,0 +1,128 @@
+-- Cases of bus cycles beside the marked ones, held by the same test: the part table entry by entry, as the chip shows it, and
+-- sentences that no marked case touches.
+use Prim.Native.Nat.{ℕ, _+_, _-_}
+use mathlib.Core.Bool.{Bool, true, false}
+use mathlib.Core.List.{List, [], _∷_, _++_}
+use Rattle.chip.specs.declared.cycle.Cycle.{Cycle}
+use Rattle.demands.specs.Marked.{Cell, cell, Case, write, writeLow, read, idleFor, cut, arm, unlock}
+
+-- ---- the part table once more: what a chip of the part has to show
+pub record Sheet : Type 0 where
+  pub part : ℕ
+  pub u1 : ℕ
+  pub u2 : ℕ
+  pub device : ℕ
+  pub program : ℕ
+  pub erase : ℕ
+  pub chip : ℕ
+  -- the sector's code, its size, and blank
+  pub code : ℕ
+  pub sector : ℕ
+  pub blank : ℕ
+
+abbrev pub sheet : ℕ → ℕ → ℕ → ℕ → ℕ → ℕ → ℕ → ℕ → ℕ → ℕ → Sheet
+sheet n u v d p e c k s b =
+    record { part = n; u1 = u; u2 = v; device = d; program = p; erase = e; chip = c; code = k; sector = s; blank = b }
+
+-- No, U1, U2, Device ID, Program, Sector/block, Chip, sector code, sector, blank
+abbrev pub sheets : List Sheet
+sheets =
+    sheet 0 0x555 0x2aa 0xfff0 14 18000 70000 0x30 2048 0xffff
+    ∷ sheet 1 0x5555 0x2aaa 0xb5 14 18000 70000 0x30 4096 0xff
+    ∷ sheet 2 0x5555 0x2aaa 0xb6 14 18000 70000 0x30 4096 0xff
+    ∷ sheet 3 0x5555 0x2aaa 0xb7 14 18000 70000 0x30 4096 0xff
+    ∷ sheet 4 0x5555 0x2aaa 0x2789 14 18000 70000 0x30 2048 0xffff
+    ∷ sheet 5 0x5555 0x2aaa 0x2780 14 18000 70000 0x30 2048 0xffff
+    ∷ sheet 6 0x5555 0x2aaa 0x2781 14 18000 70000 0x30 2048 0xffff
+    ∷ sheet 7 0x5555 0x2aaa 0x274b 28 36000 140000 0x30 2048 0xffff
+    ∷ sheet 8 0x5555 0x2aaa 0x274a 28 36000 140000 0x30 2048 0xffff
+    ∷ sheet 9 0x555 0x2aa 0x236d 7 18000 40000 0x50 2048 0xffff
+    ∷ sheet 10 0x555 0x2aa 0x236c 7 18000 40000 0x50 2048 0xffff
+    ∷ []
+
+-- a case on a part whose cells all hold 0, or all of them blank
+abbrev pub on : ℕ → ℕ → List Cycle → List ℕ → List Cell → Bool → Case
+on part fill cycles reads cells pending =
+    record { part = part; fill = fill; but = []; cycles = cycles; reads = reads; cells = cells; pending = pending }
+
+abbrev pub identify : ℕ → ℕ → List Cycle
+identify u v = write u 0xaa ∷ write v 0x55 ∷ write u 0x90 ∷ []
+
+-- identification at 0, 1, 2 and 256; a program that is busy a µs before its time and done then; a sector erase and a chip erase,
+-- the same, and the cells around the sector
+abbrev pub shown : Sheet → List Case
+shown s =
+    on (s .part) 0 (identify (s .u1) (s .u2) ++ (read 0 0 ∷ read 0 1 ∷ read 0 2 ∷ read 0 256 ∷ [])) (0xbf ∷ s .device ∷ 0 ∷ 0 ∷ []) [] false
+    ∷ on (s .part) (s .blank) (arm (s .u1) (s .u2) ++ (write 7 0x12 ∷ idleFor (s .program - 1) ∷ read 0 7 ∷ [])) (0x00c0 ∷ []) (cell 7 (s .blank) ∷ []) true
+    ∷ on (s .part) (s .blank) (arm (s .u1) (s .u2) ++ (write 7 0x12 ∷ idleFor (s .program - 1) ∷ read 1 7 ∷ [])) (0x12 ∷ []) (cell 7 0x12 ∷ []) false
+    ∷ on (s .part) 0 (unlock (s .u1) (s .u2) ++ (write (s .sector + 5) (s .code) ∷ idleFor (s .erase - 1) ∷ read 0 0 ∷ [])) (0x0040 ∷ []) (cell (s .sector) 0 ∷ []) true
+    ∷ on (s .part) 0 (unlock (s .u1) (s .u2) ++ (write (s .sector + 5) (s .code) ∷ idleFor (s .erase) ∷ []))
+    []
+    (cell (s .sector - 1) 0 ∷ cell (s .sector) (s .blank) ∷ cell (s .sector + s .sector - 1) (s .blank) ∷ cell (s .sector + s .sector) 0 ∷ [])
+    false
+    ∷ on (s .part) 0 (unlock (s .u1) (s .u2) ++ (write (s .u1) 0x10 ∷ idleFor (s .chip - 1) ∷ read 0 0 ∷ [])) (0x0040 ∷ []) [] true
+    ∷ on (s .part) 0 (unlock (s .u1) (s .u2) ++ (write (s .u1) 0x10 ∷ idleFor (s .chip) ∷ [])) [] [] false
+    ∷ []
+
+abbrev pub shownAll : List Sheet → List Case
+shownAll [] = []
+shownAll (s ∷ ss) = shown s ++ shownAll ss
+
+-- ---- the protected block, from both sides: a program with WP# low is ignored at one address and starts at its neighbour
+abbrev pub guarded : ℕ → ℕ → ℕ → ℕ → ℕ → List Case
+guarded part u v inside outside =
+    on part 0xffff (arm u v ++ (writeLow inside 0 ∷ read 0 0 ∷ [])) (0xffff ∷ []) [] false
+    ∷ on part 0xffff (arm u v ++ (writeLow outside 0 ∷ read 0 0 ∷ [])) (0x00c0 ∷ []) [] true
+    ∷ []
+
+abbrev pub protectedEnds : List Case
+protectedEnds =
+    guarded 0 0x555 0x2aa 4095 4096
+    ++ (guarded 7 0x5555 0x2aaa 32767 32768
+    ++ (guarded 8 0x5555 0x2aaa 1015808 1015807
+    ++ (guarded 9 0x555 0x2aa 32767 32768
+    ++ guarded 10 0x555 0x2aa 4161536 4161535)))
+
+-- ---- the compared address bits: 11 on parts 0, 9 and 10, 15 on the rest
+abbrev pub comparedBits : List Case
+comparedBits =
+    on 0 0xffff (arm 0x1555 0x12aa ++ (write 7 0 ∷ read 0 7 ∷ [])) (0x00c0 ∷ []) [] true
+    ∷ on 10 0xffff (arm 0x5555 0x2aaa ++ (write 7 0 ∷ read 0 7 ∷ [])) (0x00c0 ∷ []) [] true
+    ∷ on 4 0xffff (arm 0xd555 0xaaaa ++ (write 7 0 ∷ read 0 7 ∷ [])) (0x00c0 ∷ []) [] true
+    ∷ on 4 0xffff (arm 0x1555 0x2aaa ++ (write 7 0 ∷ read 0 7 ∷ [])) (0xffff ∷ []) [] false
+    ∷ on 3 0xff (arm 0x555 0x2aa ++ (write 7 0 ∷ read 0 7 ∷ [])) (0xff ∷ []) [] false
+    ∷ []
+
+-- ---- sentences
+abbrev pub sentences : List Case
+sentences =
+    -- command bytes are compared on the low eight data bits
+    on 5 0xffff (write 0x5555 0x12aa ∷ write 0x2aaa 0x3455 ∷ write 0x5555 0x56a0 ∷ write 7 0 ∷ read 0 7 ∷ []) (0x00c0 ∷ []) [] true
+    -- AAH at U1 as the third write, and as an erase's sixth, begins nothing
+    ∷ on 0 0xffff (write 0x555 0xaa ∷ write 0x2aa 0x55 ∷ (arm 0x555 0x2aa ++ (write 7 0 ∷ read 0 7 ∷ []))) (0xffff ∷ []) [] false
+    ∷ on 0 0xffff (unlock 0x555 0x2aa ++ (arm 0x555 0x2aa ++ (write 7 0 ∷ read 0 7 ∷ []))) (0xffff ∷ []) [] false
+    -- a write while busy does nothing, to bit 6 neither
+    ∷ on 0 0xffff (arm 0x555 0x2aa ++ (write 7 0 ∷ write 8 0 ∷ read 1 7 ∷ [])) (0x00c0 ∷ []) [] true
+    -- a read disturbs no sequence, a stray write ends it
+    ∷ on 0 0xffff (write 0x555 0xaa ∷ read 0 0 ∷ write 0x2aa 0x55 ∷ read 0 0 ∷ write 0x555 0xa0 ∷ read 0 0 ∷ write 7 0 ∷ read 0 7 ∷ []) (0xffff ∷ 0xffff ∷ 0xffff ∷ 0x00c0 ∷ []) [] true
+    ∷ on 0 0xffff (write 0x555 0xaa ∷ write 0x2aa 0x55 ∷ write 0 0 ∷ write 0x555 0xa0 ∷ write 7 0 ∷ read 0 7 ∷ []) (0xffff ∷ []) [] false
+    -- starting an operation ends identification mode, and so do F0H, a stray write and a cut at rest
+    ∷ on 0 0xffff (identify 0x555 0x2aa ++ (arm 0x555 0x2aa ++ (write 7 0 ∷ read 1 0 ∷ read 13 0 ∷ []))) (0x00c0 ∷ 0xffff ∷ []) [] false
+    ∷ on 0 0xffff (identify 0x555 0x2aa ++ (write 0x555 0xaa ∷ write 0x2aa 0x55 ∷ write 0x555 0xf0 ∷ read 0 0 ∷ [])) (0xffff ∷ []) [] false
+    ∷ on 0 0xffff (identify 0x555 0x2aa ++ (write 9 0xf0 ∷ read 0 0 ∷ [])) (0xffff ∷ []) [] false
+    ∷ on 0 0xffff (identify 0x555 0x2aa ++ (cut 0 ∷ read 0 0 ∷ [])) (0xffff ∷ []) [] false
+    -- a sequence begun in identification keeps that mode
+    ∷ on 0 0xffff (identify 0x555 0x2aa ++ (write 0x555 0xaa ∷ read 0 0 ∷ [])) (0xbf ∷ []) [] false
+    -- WP# low: a chip erase of part 5, which has no such pin, starts; of the bench and of part 8 it is ignored
+    ∷ on 5 0 (unlock 0x5555 0x2aaa ++ (writeLow 0x5555 0x10 ∷ read 1 7 ∷ [])) (0x0040 ∷ []) [] true
+    ∷ on 0 0 (unlock 0x555 0x2aa ++ (writeLow 0x555 0x10 ∷ read 1 7 ∷ [])) (0 ∷ []) [] false
+    ∷ on 8 0 (unlock 0x5555 0x2aaa ++ (writeLow 0x5555 0x10 ∷ read 1 7 ∷ [])) (0 ∷ []) [] false
+    -- WP# is sampled at the last write alone
+    ∷ on 0 0xffff (writeLow 0x555 0xaa ∷ writeLow 0x2aa 0x55 ∷ writeLow 0x555 0xa0 ∷ write 7 0 ∷ read 0 7 ∷ []) (0x00c0 ∷ []) [] true
+    -- 50H on part 3 is a broken write; on parts 9 and 7 30H and 50H change places
+    ∷ on 3 0 (unlock 0x5555 0x2aaa ++ (write 7 0x50 ∷ read 1 7 ∷ [])) (0 ∷ []) [] false
+    ∷ on 9 0 (unlock 0x555 0x2aa ++ (write 40000 0x30 ∷ idleFor 18000 ∷ [])) [] (cell 32767 0 ∷ cell 32768 0xffff ∷ cell 65535 0xffff ∷ cell 65536 0 ∷ []) false
+    ∷ on 7 0 (unlock 0x5555 0x2aaa ++ (write 40000 0x30 ∷ idleFor 36000 ∷ [])) [] (cell 38911 0 ∷ cell 38912 0xffff ∷ cell 40959 0xffff ∷ cell 40960 0 ∷ []) false
+    -- on an eight-bit part a cut uses the scar's low eight bits
+    ∷ on 3 0x34 (unlock 0x5555 0x2aaa ++ (write 7 0x30 ∷ cut 0xab0f ∷ [])) [] (cell 0 0x3f ∷ cell 4095 0x3f ∷ cell 4096 0x34 ∷ []) false
+    ∷ []
