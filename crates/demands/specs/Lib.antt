@@ -4,4 +4,5 @@ pub mod Demand2
 pub mod Demand3
 pub mod Marked
 pub mod Beside
+pub mod Refused
 pub mod Unique
