@@ -4,3 +4,4 @@ pub mod Demand3
 pub mod Marked
 pub mod Unique
 pub mod Refused
+pub mod Answers

@@ -43,6 +43,8 @@ use Rattle.job.proofs.load_first.Reads as first-reads
 use Rattle.jobfile.specs.JobFile.{malformed, jobOf, valuesOf}
 use Rattle.jobfile.proofs.read_job.Kinds as file-kinds
 use Rattle.jobfile.proofs.read_job.Reads as file-reads
+use Rattle.jobfile.proofs.read_image.Kinds as image-kinds
+use Rattle.jobfile.proofs.read_image.Reads as image-reads
 use Rattle.billing.specs.File.{blankBench}
 use Rattle.billing.proofs.bill_file.Kinds as bill-file-kinds
 use Rattle.billing.proofs.bill_file.Reads as bill-file-reads
@@ -262,6 +264,25 @@ pub record ToRead : Type 0 where
 
 abbrev pub toRead : FileCall → ToRead
 toRead c = record { file = c .given .0 .now }
+
+-- ---- read_image(file, start, image)
+abbrev pub ImageCall : Type 0
+ImageCall = Call 2 image-kinds.ps image-kinds.r image-reads.Post
+
+pub record ToReadImage : Type 0 where
+  pub file : List ℕ
+  pub start : ℕ
+  -- how many values are lent
+  pub room : ℕ
+
+abbrev pub toReadImage : ImageCall → ToReadImage
+toReadImage c =
+    let a = c .given in
+    record { file = a .0 .now; start = a .1 .0; room = length (a .1 .1 .0 .now) }
+
+-- the lent image as the call left it
+abbrev pub imageLeft : ImageCall → List ℕ
+imageLeft c = c .ends .1 .1 .0 .now
 
 -- ---- bill_file(file)
 abbrev pub BillFileCall : Type 0
