@@ -43,7 +43,7 @@ sheets =
 -- a case on a part whose cells all hold 0, or all of them blank
 abbrev pub on : ℕ → ℕ → List Cycle → List ℕ → List Cell → Bool → Case
 on part fill cycles reads cells pending =
-    record { part = part; fill = fill; but = []; cycles = cycles; reads = reads; cells = cells; pending = pending }
+    record { part = part; fill = fill; but = []; cycles = cycles; reads = reads; ranges = []; cells = cells; pending = pending }
 
 abbrev pub identify : ℕ → ℕ → List Cycle
 identify u v = write u 0xaa ∷ write v 0x55 ∷ write u 0x90 ∷ []

@@ -3,7 +3,7 @@ use Prim.Native.Nat.{ℕ}
 use mathlib.Core.Bool.{Bool, true, false, not}
 use mathlib.Core.List.{List, [], _∷_, _++_}
 use lib.Dec.{eqb}
-use lib.ListN.{getD, set, replicate}
+use lib.ListN.{getD, set, replicate, take, drop}
 use Rattle.parts.specs.Pick.{pick, _unless_, _else_}
 use Rattle.parts.specs.Table.{rowOf}
 use Rattle.chip.specs.declared.cycle.Action.{Action}
@@ -26,6 +26,15 @@ pub record Cell : Type 0 where
 abbrev pub cell : ℕ → ℕ → Cell
 cell a v = record { at = a; value = v }
 
+-- count cells from an address on that all hold a value
+pub record Range : Type 0 where
+  pub first : ℕ
+  pub count : ℕ
+  pub value : ℕ
+
+abbrev pub range : ℕ → ℕ → ℕ → Range
+range a n v = record { first = a; count = n; value = v }
+
 pub record Case : Type 0 where
   -- before: the part, what all its cells hold, but those listed; the device is fresh
   pub part : ℕ
@@ -33,8 +42,10 @@ pub record Case : Type 0 where
   pub but : List Cell
   -- the cycles sent
   pub cycles : List Cycle
-  -- after: the values of the reads among them, in order; what some of the cells hold; whether an operation is pending
+  -- after: the values of the reads among them, in order; what whole ranges and some of the cells hold; whether an operation is
+  -- pending
   pub reads : List ℕ
+  pub ranges : List Range
   pub cells : List Cell
   pub pending : Bool
 
@@ -48,6 +59,9 @@ writeLow a x = cycle 0 false (Write a x)
 abbrev pub read : ℕ → ℕ → Cycle
 read e a = cycle e true (Read a)
 
+abbrev pub readLow : ℕ → ℕ → Cycle
+readLow e a = cycle e false (Read a)
+
 abbrev pub idleFor : ℕ → Cycle
 idleFor e = cycle e true Idle
 
@@ -57,6 +71,10 @@ cut s = cycle 0 true (Cut s)
 -- the writes in front of a program's data and of an erase's last write, at unlock addresses u and v
 abbrev pub arm : ℕ → ℕ → List Cycle
 arm u v = write u 0xaa ∷ write v 0x55 ∷ write u 0xa0 ∷ []
+
+-- the same with WP# low
+abbrev pub armLow : ℕ → ℕ → List Cycle
+armLow u v = writeLow u 0xaa ∷ writeLow v 0x55 ∷ writeLow u 0xa0 ∷ []
 
 abbrev pub unlock : ℕ → ℕ → List Cycle
 unlock u v = write u 0xaa ∷ write v 0x55 ∷ write u 0x80 ∷ write u 0xaa ∷ write v 0x55 ∷ []
@@ -89,7 +107,8 @@ case-1-sector =
       but = [];
       cycles = unlock 0x555 0x2aa ++ (write 2053 0x50 ∷ idleFor 18000 ∷ []);
       reads = [];
-      cells = cell 2047 0 ∷ cell 2048 0xffff ∷ cell 4095 0xffff ∷ cell 4096 0 ∷ [];
+      ranges = range 0 2048 0 ∷ range 2048 2048 0xffff ∷ range 4096 2048 0 ∷ [];
+      cells = [];
       pending = false;
     }
 
@@ -102,7 +121,8 @@ case-1-block =
       but = [];
       cycles = unlock 0x5555 0x2aaa ++ (write 2053 0x50 ∷ idleFor 36000 ∷ []);
       reads = [];
-      cells = cell 0 0xffff ∷ cell 32767 0xffff ∷ cell 32768 0 ∷ [];
+      ranges = range 0 32768 0xffff ∷ range 32768 2048 0 ∷ [];
+      cells = [];
       pending = false;
     }
 
@@ -115,6 +135,7 @@ case-2 =
       but = cell 7 0x00f0 ∷ [];
       cycles = arm 0x555 0x2aa ++ (write 7 0x0f0f ∷ idleFor 14 ∷ []);
       reads = [];
+      ranges = [];
       cells = cell 6 0xffff ∷ cell 7 0 ∷ cell 8 0xffff ∷ [];
       pending = false;
     }
@@ -128,6 +149,7 @@ case-3-busy =
       but = [];
       cycles = arm 0x5555 0x2aaa ++ (write 7 0x1234 ∷ idleFor 13 ∷ []);
       reads = [];
+      ranges = [];
       cells = cell 7 0xffff ∷ [];
       pending = true;
     }
@@ -141,6 +163,7 @@ case-3-done =
       but = [];
       cycles = arm 0x5555 0x2aaa ++ (write 7 0x1234 ∷ read 14 7 ∷ []);
       reads = 0x1234 ∷ [];
+      ranges = [];
       cells = cell 7 0x1234 ∷ [];
       pending = false;
     }
@@ -154,6 +177,7 @@ case-4-programming =
       but = [];
       cycles = arm 0x5555 0x2aaa ++ (write 7 0 ∷ read 1 7 ∷ read 1 7 ∷ []);
       reads = 0x00c0 ∷ 0x0080 ∷ [];
+      ranges = [];
       cells = [];
       pending = true;
     }
@@ -167,6 +191,7 @@ case-4-erasing =
       but = [];
       cycles = unlock 0x5555 0x2aaa ++ (write 7 0x30 ∷ read 1 7 ∷ read 1 7 ∷ []);
       reads = 0x0040 ∷ 0 ∷ [];
+      ranges = [];
       cells = [];
       pending = true;
     }
@@ -180,6 +205,7 @@ case-5 =
       but = [];
       cycles = write 0x555 0xaa ∷ write 0x555 0xaa ∷ write 0x2aa 0x55 ∷ write 0x555 0xa0 ∷ write 7 0 ∷ read 14 7 ∷ [];
       reads = 0xffff ∷ [];
+      ranges = [];
       cells = cell 7 0xffff ∷ [];
       pending = false;
     }
@@ -193,6 +219,7 @@ case-6 =
       but = [];
       cycles = arm 0x5555 0x2aaa ++ (write 7 0x1234 ∷ read 7 7 ∷ []);
       reads = 0x1234 ∷ [];
+      ranges = [];
       cells = cell 7 0x1234 ∷ [];
       pending = false;
     }
@@ -204,8 +231,9 @@ case-7-ignored =
       part = 0;
       fill = 0xffff;
       but = [];
-      cycles = arm 0x555 0x2aa ++ (writeLow 4095 0 ∷ read 0 4095 ∷ []);
+      cycles = armLow 0x555 0x2aa ++ (writeLow 4095 0 ∷ readLow 0 4095 ∷ []);
       reads = 0xffff ∷ [];
+      ranges = [];
       cells = cell 4095 0xffff ∷ [];
       pending = false;
     }
@@ -217,8 +245,9 @@ case-7-starts =
       part = 0;
       fill = 0xffff;
       but = [];
-      cycles = arm 0x555 0x2aa ++ (writeLow 4096 0 ∷ read 0 4096 ∷ []);
+      cycles = armLow 0x555 0x2aa ++ (writeLow 4096 0 ∷ readLow 0 4096 ∷ []);
       reads = 0x00c0 ∷ [];
+      ranges = [];
       cells = cell 4096 0xffff ∷ [];
       pending = true;
     }
@@ -232,6 +261,7 @@ case-8-erasing =
       but = [];
       cycles = unlock 0x555 0x2aa ++ (write 7 0x30 ∷ cut 0x00ff ∷ []);
       reads = [];
+      ranges = [];
       cells = cell 0 0x12ff ∷ cell 2047 0x12ff ∷ cell 2048 0x1234 ∷ [];
       pending = false;
     }
@@ -245,6 +275,7 @@ case-8-programming =
       but = [];
       cycles = arm 0x555 0x2aa ++ (write 7 0x1234 ∷ cut 0x00ff ∷ []);
       reads = [];
+      ranges = [];
       cells = cell 6 0xffff ∷ cell 7 0x12ff ∷ cell 8 0xffff ∷ [];
       pending = false;
     }
@@ -258,6 +289,7 @@ case-9 =
       but = [];
       cycles = write 0x5555 0xaa ∷ write 0x2aaa 0x55 ∷ write 0x5555 0x90 ∷ read 0 0 ∷ read 0 1 ∷ [];
       reads = 0xbf ∷ 0xb7 ∷ [];
+      ranges = [];
       cells = [];
       pending = false;
     }
@@ -362,6 +394,14 @@ abbrev pub holdsAll : List ℕ → List Cell → Bool
 holdsAll cells [] = true
 holdsAll cells (l ∷ ls) = pick (eqb (getD cells (l .at) 0) (l .value)) (holdsAll cells ls) false
 
+abbrev pub allAre : ℕ → List ℕ → Bool
+allAre v [] = true
+allAre v (x ∷ xs) = pick (eqb x v) (allAre v xs) false
+
+abbrev pub holdRanges : List ℕ → List Range → Bool
+holdRanges cells [] = true
+holdRanges cells (r ∷ rs) = pick (allAre (r .value) (take (r .count) (drop (r .first) cells))) (holdRanges cells rs) false
+
 abbrev pub sameBool : Bool → Bool → Bool
 sameBool true b = b
 sameBool false b = not b
@@ -370,6 +410,7 @@ abbrev pub asSaid : Case → Ran → Bool
 asSaid k r =
     false unless r .accepted
     else false unless sameList (r .reads) (k .reads)
+    else false unless holdRanges (r .chip .cells) (k .ranges)
     else false unless holdsAll (r .chip .cells) (k .cells)
     else sameBool (busy (r .chip .device .core)) (k .pending)
 
