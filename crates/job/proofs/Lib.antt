@@ -12,3 +12,4 @@ pub mod Runs
 pub mod Billing
 pub mod Counts
 pub mod Determined
+pub mod Sentences
