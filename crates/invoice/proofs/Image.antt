@@ -80,7 +80,8 @@ module _ (j : Job) (image : List ℕ) (R : AcceptedJob j image) where
       ∙ (ap (play (j .part) (chipOf w)) (cycles-are command few) ∙ (rw t at (talk-plays (j .part) (j .wp) n first (chipOf w))))
     where
       cycles-are : (command : ℕ) → command ≤ 1 → cyclesIn (operated j command a x)
-          ≡ writeCycles (j .wp) (writesOf r command a x) ++ (replicate (pollsOf r command (j .p)) (cycle (j .p) (j .wp) (Read (addressOf command a))) ++ (cycle confirmAfter (j .wp) (Read (addressOf command a)) ∷ []))
+          ≡ writeCycles (j .wp) (writesOf r command a x)
+          ++ (replicate (pollsOf r command (j .p)) (cycle (j .p) (j .wp) (Read (addressOf command a))) ++ (cycle confirmAfter (j .wp) (Read (addressOf command a)) ∷ []))
       cycles-are zero le = rw (← R .row) (operated-cycles j 0 a x le)
       cycles-are (suc zero) le = rw (← R .row) (operated-cycles j 1 a x le)
       cycles-are (suc (suc c)) le = absurd (omega arith)
@@ -349,8 +350,8 @@ module _ (j : Job) (image : List ℕ) (R : AcceptedJob j image) where
       (λ i h. let y : a + S + i ≡ a + (S + i) = omega arith in rw (y, getD-drop S v i 0) (m (S + i) (omega arith)))
       (λ i h. let y : a + S + i ≡ a + (S + i) = omega arith in getD-drop S l i 0 ∙ (s (S + i) (omega arith) ∙ rw y (sym (first .above (a + (S + i)) (omega arith)))))
       (first .ready) in
-      stretch-both w a (length (take S v)) (a + S) (length (drop S v)) L (sectorsSent j (a + S) n (drop S l) (drop S v)) (sectoring j a (take S l) (take S v)) (sectoringAll j (a + S) n (drop S l) (drop S v))
-      (omega arith) first next a (length v) (omega arith)
+      stretch-both w a (length (take S v)) (a + S) (length (drop S v)) L (sectorsSent j (a + S) n (drop S l) (drop S v))
+      (sectoring j a (take S l) (take S v)) (sectoringAll j (a + S) n (drop S l) (drop S v)) (omega arith) first next a (length v) (omega arith)
 
   -- ---- the job: its cycles start its operations, and leave the chip at rest
   pub job-started : (cells : List ℕ) → length cells ≡ r .cells → 0 < j .size → Stretch (world cells noneSent) (j .first) (length image) (sentOf j image cells) (operationsOf j image cells)

@@ -285,7 +285,8 @@ module _ (j : Job) (image : List ℕ) (R : AcceptedJob j image) (cells : List �
       let t = all-is r os (started-all (j .part) cs (chip cells d)) blocks chips cells full in
       let k = all-is r (operationsOf j image cells) startable (held .blocks) (held .chips) cells full in
       let p = trace (j .part) cs (chip cells d) whole rests ends in
-      let best = job-best (r .width) size (timeOf r 0) (timeOf r 1) (j .first / size) (j .count / size) cells image (map (opOf size) os) room (there (play (j .part) (chip cells d) cs .cells) (operateAll (r .width) size (map (opOf size) os) cells) (p ∙ t .0) holds) in
+      let same = there (play (j .part) (chip cells d) cs .cells) (operateAll (r .width) size (map (opOf size) os) cells) (p ∙ t .0) holds in
+      let best = job-best (r .width) size (timeOf r 0) (timeOf r 1) (j .first / size) (j .count / size) cells image (map (opOf size) os) room same in
       omega (arith, best, t .1, k .1, ap (costAll (timeOf r 0) (timeOf r 1)) listed)
     where
       there : (c k : List ℕ) → c ≡ k

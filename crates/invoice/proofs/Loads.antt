@@ -84,7 +84,8 @@ module _ (part : ℕ) (cells : List ℕ) (first : ℕ) (image : List ℕ) (wp : 
   by-operations : loadOf part cells first image wp p ≡ reckonedBy j cells os
   unfolding loadOf
   by-operations =
-      rw (eq-eqb (jobRefusal part (length cells) first image wp p) 0 accepted, tally-is part cells first image wp p accepted, counts-are, cells-left j image (ok part cells first image wp p accepted .right) cells (ok part cells first image wp p accepted .whole))
+      let w = ok part cells first image wp p accepted in
+      rw (eq-eqb (jobRefusal part (length cells) first image wp p) 0 accepted, tally-is part cells first image wp p accepted, counts-are, cells-left j image (w .right) cells (w .whole))
 
   pub loads : loadOf part cells first image wp p ≡ reckoned j image cells
   loads = by-operations ∙ ap (reckonedBy j cells) (decides j (j .count / j .size) first (drop first cells) image (ok part cells first image wp p accepted .right .fits))

@@ -67,6 +67,10 @@ endOf j image k t w = end (runOf j image k t w) (stopOf j image k t w)
 abbrev pub endFrom : Job → List ℕ → List ℕ → ℕ → End
 endFrom j image cells k = end (runFrom j image cells k) (stopFrom j image cells k)
 
+-- a run under way, that ends at P: at most k cycles are sent, and the counts are within them
+abbrev pub Going : Job → List ℕ → ℕ → End → List ℕ → Turn → List ℕ → Held → Type 0
+Going j image k P seen t cells h = (h .sent ≤ k) × (CountsFit (h .tally) (h .sent) × (endOf j image (k - h .sent) (turned seen t) (world cells h) ≡ P))
+
 -- what a run hands back where it ends
 abbrev pub Handed : End → List ℕ → Held → ℕ → Type 0
 Handed P cells h n = (ended h n ≡ ended (P .place .held) (P .number)) × (cells ≡ P .place .cells)
@@ -76,8 +80,7 @@ handed P cells h n e = (ap (λ (e : End). ended (e .place .held) (e .number)) e,
 
 module _ (j : Job) (image : List ℕ) where
   -- nothing sent, the first sector's first read
-  pub starts : (k : ℕ) (t : Turn) (cells : List ℕ) (h : Held) → h ≡ noneSent → t ≡ nextSector j 0
-      → (h .sent ≤ k) × (CountsFit (h .tally) (h .sent) × (endOf j image (k - h .sent) (turned (replicate 4096 0) t) (world cells h) ≡ endFrom j image cells k))
+  pub starts : (k : ℕ) (t : Turn) (cells : List ℕ) (h : Held) → h ≡ noneSent → t ≡ nextSector j 0 → Going j image k (endFrom j image cells k) (replicate 4096 0) t cells h
   starts k t cells h e f =
       let z : k - 0 ≡ k = omega arith in
       rw (e, f) (zero-le, (record { erases = zero-le; programs = zero-le; polls = zero-le; scans = zero-le; confirms = zero-le; time = zero-le }, rw z))
@@ -97,15 +100,14 @@ module _ (j : Job) (image : List ℕ) where
   pub turns : (k : ℕ) (seen seen′ : List ℕ) (t t′ : Turn) (l : Loader) (p : Purpose) (c : Cycle) (cells cells′ : List ℕ) (h h′ : Held) (P : End) → h .sent < k → t ≡ Play l p c
       → h′ ≡ sendOf (j .part) (world cells h) p c .held → cells′ ≡ sendOf (j .part) (world cells h) p c .cells
       → t′ ≡ turnOf j image seen l (h′ .reply) .turn → seen′ ≡ turnOf j image seen l (h′ .reply) .seen
-      → c .elapsed ≤ 4294967295 → CountsFit (h .tally) (h .sent) → endOf j image (k - h .sent) (turned seen t) (world cells h) ≡ P
-      → (h′ .sent ≤ k) × (CountsFit (h′ .tally) (h′ .sent) × (endOf j image (k - h′ .sent) (turned seen′ t′) (world cells′ h′) ≡ P))
+      → c .elapsed ≤ 4294967295 → Going j image k P seen t cells h → Going j image k P seen′ t′ cells′ h′
   unfolding sendOf
-  turns k seen seen′ t t′ l p c cells cells′ h h′ P lt e qh qc qt qs short w r =
+  turns k seen seen′ t t′ l p c cells cells′ h h′ P lt e qh qc qt qs short v =
       let s : h′ .sent ≡ h .sent + 1 = ap (λ (h : Held). h .sent) qh in
       let y : h′ .tally ≡ countedOf (h .tally) p (c .elapsed) = ap (λ (h : Held). h .tally) qh in
       let z : k - h′ .sent ≡ k - (h .sent + 1) = ap (λ (n : ℕ). k - n) s in
-      let n : CountsFit (h′ .tally) (h′ .sent) = rw (y, s) (counted-counts (h .tally) (h .sent) (c .elapsed) w short p) in
-      (omega arith, (n, rw z (again k (h .sent) seen seen′ t t′ l p c cells cells′ h h′ P lt e qh qc qt qs r)))
+      let n : CountsFit (h′ .tally) (h′ .sent) = rw (y, s) (counted-counts (h .tally) (h .sent) (c .elapsed) (v .1 .0) short p) in
+      (omega arith, (n, rw z (again k (h .sent) seen seen′ t t′ l p c cells cells′ h h′ P lt e qh qc qt qs (v .1 .1))))
 
   -- the loader has stopped
   pub stopped : (k n m : ℕ) (seen : List ℕ) (t : Turn) (cells : List ℕ) (h : Held) (P : End) → t ≡ Stop n → m ≡ stopNumber t → endOf j image k (turned seen t) (world cells h) ≡ P → Handed P cells h m
@@ -119,6 +121,6 @@ module _ (j : Job) (image : List ℕ) where
       handed P cells h m (ap (end (world cells h)) q ∙ (rw z at r))
 
 -- a cycle more is sent
-pub one-more : (part : ℕ) (w : World) (p : Purpose) (c : Cycle) → sendOf part w p c .held .sent ≡ w .held .sent + 1
+pub one-more : (part : ℕ) (w : World) (p : Purpose) (c : Cycle) (h : Held) → h ≡ sendOf part w p c .held → h .sent ≡ w .held .sent + 1
 unfolding sendOf
-one-more part w p c = refl
+one-more part w p c h e = ap (λ (h : Held). h .sent) e

@@ -42,7 +42,8 @@ writes-are j command (w ∷ (v ∷ ws)) = ap (λ (L : List Sent). sent Lead (cyc
 
 -- ---- the operation
 module _ (j : Job) (image : List ℕ) (right : j .row ≡ rowOf (j .part)) (task : Task) (base i : ℕ) (inside : base + j .size ≤ j .count) (there : i < j .size) (seen : List ℕ)
-    (command x : ℕ) (few : command ≤ 1) (accepted : startRefusal (j .part) command (placeOf j base i) x (j .p) ≡ 0) (heeded : ignored (rowOf (j .part)) (j .wp) command (placeOf j base i) ≡ false) where
+    (command x : ℕ) (few : command ≤ 1) (accepted : startRefusal (j .part) command (placeOf j base i) x (j .p) ≡ 0)
+    (heeded : ignored (rowOf (j .part)) (j .wp) command (placeOf j base i) ≡ false) where
   abbrev at : ℕ
   at = placeOf j base i
 
@@ -92,7 +93,8 @@ module _ (j : Job) (image : List ℕ) (right : j .row ≡ rowOf (j .part)) (task
         let all = rw talk-is at (talk-adds Sent g (j .part) (j .wp) fuel [] first (chipOf w) (keeps b 0 ranged) (names Sent g b 0 ranged)) in
         named ∙ (all ∙ append-nil (spoken Sent g (j .part) (j .wp) fuel first (chipOf w)))
 
-    pub operates : (L : List Sent) → ((w′ : World) → w′ .cells ≡ completed (rowOf (j .part)) command at x (w .cells) → w′ .held .device ≡ freshDevice → Rest j image (turned seen (afterwards j image task base i)) w′ L)
+    pub operates : (L : List Sent)
+        → ((w′ : World) → w′ .cells ≡ completed (rowOf (j .part)) command at x (w .cells) → w′ .held .device ≡ freshDevice → Rest j image (turned seen (afterwards j image task base i)) w′ L)
         → Rest j image (turned seen (beginOf j task base i command x)) w (operated j command at x ++ L)
     operates L h =
         rest-is j image (turned seen (beginOf j task base i command x)) (turned seen (drivenOf j image task base i first)) w _ _ (ap (turned seen) begins) (ap (λ (l : List Sent). l ++ L) listed)

@@ -85,7 +85,8 @@ module _ (j : Job) (image : List ℕ) where
         → Rest (turned seen (drivenOf j image task base i t)) w (saying m t w ++ L)
 
     -- nothing named: what follows
-    ends : (t : Step) (w : World) (L : List Sent) → t .next ≡ Nothing → t .answer ≡ 0 → Rest (turned seen (afterwards j image task base i)) w L → Rest (turned seen (drivenOf j image task base i t)) w L
+    ends : (t : Step) (w : World) (L : List Sent) → t .next ≡ Nothing → t .answer ≡ 0 → Rest (turned seen (afterwards j image task base i)) w L
+        → Rest (turned seen (drivenOf j image task base i t)) w L
     unfolding drivenOf
     ends t w L e z h = rw (e, eq-eqb (t .answer) 0 z) h
 

@@ -1,6 +1,6 @@
 -- The loader's cycles, sector by sector, are those of the one list.
 use Prim.Native.Nat.{ℕ, zero, suc, _+_, _-_, _*_, _%_, _≤_, _<_}
-use mathlib.Core.Path.{_≡_, refl, sym, ap, ap₂, _∙_}
+use mathlib.Core.Path.{_≡_, refl, sym, ap, _∙_}
 use mathlib.Core.Bool.{Bool, true, false}
 use mathlib.Core.List.{List, [], _∷_, _++_, map, append-assoc}
 use native.Mathlib.Nat.{le-refl, add-mod, add-mod-right, zero-mod, zero-mul, suc-mul}
@@ -30,7 +30,7 @@ use Rattle.job.specs.declared.loader.Stage.the-variants.{Scanning, Looki
 use Rattle.job.specs.declared.loader.Task.{Task}
 use Rattle.job.specs.declared.loader.Task.the-variants.{Erasing, Filling, Burning}
 use Rattle.job.specs.declared.loader.Purpose.the-variants.{Scan}
-use Rattle.job.specs.declared.loader.Turn.the-variants.{Play, Stop}
+use Rattle.job.specs.declared.loader.Turn.the-variants.{Play}
 use Rattle.job.specs.declared.search.Decision.{Decision}
 use Rattle.job.specs.declared.search.Decision.the-variants.{NoErase, SectorErase}
 use Rattle.job.specs.Search.{leadingOf}
@@ -102,7 +102,7 @@ module _ (j : Job) (image : List ℕ) (R : AcceptedJob j image) where
     seen-more i seen cells v h whole e most s =
         let k : i < length (drop a cells) = simp length-drop (omega (arith, there i h)) in
         let n : i < length seen = omega (arith, s .0) in
-        (length-set seen i v ∙ s .0, rw (add-one i) (take-suc-set seen i v n ∙ (ap₂ {A = List ℕ} {B = ℕ} {C = List ℕ} (λ l x. l ++ (x ∷ [])) (s .1) (e ∙ ap value (sym (getD-drop a cells i 0))) ∙ sym (map-suc value (drop a cells) i k))))
+        (length-set seen i v ∙ s .0, rw (add-one i) (take-suc-set seen i v n ∙ rw (s .1, e, ← getD-drop a cells i 0) (sym (map-suc value (drop a cells) i k))))
 
     scans-turn : (i : ℕ) (seen : List ℕ) (v : ℕ) → i < j .size → turnOf j image seen (loader Scanning base i) v ≡ turned (set seen i v) (scannedOf j image (set seen i v) base i)
     unfolding turnOf
@@ -128,16 +128,13 @@ module _ (j : Job) (image : List ℕ) (R : AcceptedJob j image) where
         let n : i + 1 ≡ j .size = omega arith in
         cell-step Scanning i seen w L (omega arith) g
         (λ w′ o. let v = w′ .held .reply in
-        rest-is j image _ (turned (set seen i v) (decideOf j image (set seen i v) base)) w′ L L
-        (scans-turn i seen v (omega arith) ∙ ap (λ (b : Bool). turned (set seen i v) (pick b (readsCell j Scanning base (i + 1)) (decideOf j image (set seen i v) base))) (le-ltb (i + 1) (j .size) (omega arith))) refl
+        rw (scans-turn i seen v (omega arith), le-ltb (i + 1) (j .size) (omega arith))
         (h (set seen i v) w′ (o .ready) (o .cells) (rw n at (seen-more i seen (w .cells) v (omega arith) (g .whole) (o .reply) most s))))
     scanning (suc m) i seen w L e most g s h =
         let n : a + i + 1 ≡ a + (i + 1) = omega arith in
         cell-step Scanning i seen w (scans j (a + i + 1) (suc m) ++ L) (omega arith) g
         (λ w′ o. let v = w′ .held .reply in
-        rest-is j image _ (turned (set seen i v) (readsCell j Scanning base (i + 1))) w′ _ _
-        (scans-turn i seen v (omega arith) ∙ ap (λ (b : Bool). turned (set seen i v) (pick b (readsCell j Scanning base (i + 1)) (decideOf j image (set seen i v) base))) (lt-ltb (i + 1) (j .size) (omega arith)))
-        (ap (λ (k : ℕ). scans j k (suc m) ++ L) n)
+        rw (scans-turn i seen v (omega arith), lt-ltb (i + 1) (j .size) (omega arith), n)
         (scanning m (i + 1) (set seen i v) w′ L (omega arith) most (o .ready) (rw (o .cells) (seen-more i seen (w .cells) v (omega arith) (g .whole) (o .reply) most s)) (rw (o .cells) h)))
 
     -- ---- what follows the sector
@@ -239,12 +236,10 @@ module _ (j : Job) (image : List ℕ) (R : AcceptedJob j image) where
 
         by : (t : Bool) → eqb (imageAt i) (blankOf (j .row .width)) ≡ t → Rest j image (turned seen (fillOf j image base i)) w (fills j (a + i) (take (suc m) (drop (base + i) image)) ++ L)
         by true t =
-            rest-is j image _ (turned seen (fillOf j image base (i + 1))) w _ (rest ++ L) (ap (turned seen) (fill-blank m i e (eqb-true _ _ t)))
-            (ap (λ (l : List Sent). l ++ L) (listed ∙ ap (λ (b : Bool). pick b [] (operated j 0 (a + i) (imageAt i)) ++ rest) t))
+            rw (fill-blank m i e (eqb-true _ _ t), listed, t)
             (ih seen w D L (omega arith) n g (λ q le lt. b q (omega arith) lt) d h)
         by false t =
-            rest-is j image _ (turned seen (beginOf j Filling base i 0 (imageAt i))) w _ (operated j 0 (a + i) (imageAt i) ++ (rest ++ L)) (ap (turned seen) (fill-here m i e (eqb-false _ _ t)))
-            (ap (λ (l : List Sent). l ++ L) (listed ∙ ap (λ (b : Bool). pick b [] (operated j 0 (a + i) (imageAt i)) ++ rest) t) ∙ append-assoc (operated j 0 (a + i) (imageAt i)) rest L)
+            rw (fill-here m i e (eqb-false _ _ t), listed, t, append-assoc (operated j 0 (a + i) (imageAt i)) rest L)
             (programs Filling i seen w (rest ++ L) k g (rw (b i (le-refl i) k) (blank-clears i k))
             (λ w′ g′ ec. ih seen w′ D L (omega arith) n g′
             (λ q le lt. ap (λ (l : List ℕ). value (getD l (a + q) 0)) ec ∙ (ap value (later-cells i q (w .cells) _ (omega arith)) ∙ b q (omega arith) lt))
@@ -260,9 +255,9 @@ module _ (j : Job) (image : List ℕ) (R : AcceptedJob j image) where
     abbrev Clears : ℕ → List ℕ → Type 0
     Clears i cells = (k : ℕ) → i ≤ k → k < j .size → bitAnd (value (getD cells (a + k) 0)) (imageAt k) ≡ imageAt k
 
-    looks-turn : (i : ℕ) (seen : List ℕ) (v : ℕ) → i < j .size → turnOf j image seen (loader Looking base i) v ≡ turned seen (burnOf j image base i v)
+    looks-turn : (i : ℕ) (seen : List ℕ) (v y : ℕ) → v ≡ y → i < j .size → turnOf j image seen (loader Looking base i) v ≡ turned seen (burnOf j image base i y)
     unfolding turnOf
-    looks-turn i seen v h = rw (sector-in j (loader Looking base i) inside h)
+    looks-turn i seen v y q h = rw (q, sector-in j (loader Looking base i) inside h)
 
     cells-more : (m i : ℕ) (cells : List ℕ) → i + suc m ≡ j .size → length cells ≡ r .cells → take (suc m) (drop (a + i) cells) ≡ getD cells (a + i) 0 ∷ take m (drop (a + (i + 1)) cells)
     cells-more m i cells e whole =
@@ -276,10 +271,8 @@ module _ (j : Job) (image : List ℕ) (R : AcceptedJob j image) where
     look-more : (m i : ℕ) → Looks m (i + 1) → Looks (suc m) i
     unfolding looks lookOf burnOf
     look-more m i ih seen w D L e n g b d h =
-        rest-is j image _ (turned seen (readsCell j Looking base i)) w _ (scanRead j (a + i) ∷ ((pick (eqb (value o) x) [] (operated j 0 (a + i) x) ++ rest) ++ L))
-        (ap (λ (b : Bool). turned seen (pick b (readsCell j Looking base i) (nextSector j (base + j .size)))) (lt-ltb i (j .size) k)) (ap (λ (l : List Sent). l ++ L) listed)
-        (cell-step Looking i seen w _ k g (λ w′ z. rest-is j image _ (turned seen (burnOf j image base i (value o))) w′ _ _ (looks-turn i seen (w′ .held .reply) k ∙ ap (λ (v : ℕ). turned seen (burnOf j image base i v)) (z .reply)) refl
-        (by w′ z (eqb (value o) x) refl)))
+        rw (lt-ltb i (j .size) k, listed)
+        (cell-step Looking i seen w _ k g (λ w′ z. rw (looks-turn i seen (w′ .held .reply) (value o) (z .reply) k) (by w′ z (eqb (value o) x) refl)))
       where
         k : i < j .size
         k = omega arith
@@ -301,26 +294,25 @@ module _ (j : Job) (image : List ℕ) (R : AcceptedJob j image) where
             → rest ++ L ≡ looks j (a + (i + 1)) (take m (drop (a + (i + 1)) (w′ .cells))) (take m (drop (base + (i + 1)) image)) ++ L
         ahead w′ q = ap (λ (l : List ℕ). looks j (a + (i + 1)) (take m l) (take m (drop (base + (i + 1)) image)) ++ L) (sym q)
 
-        by : (w′ : World) → Read-on w (a + i) w′ → (t : Bool) → eqb (value o) x ≡ t → Rest j image (turned seen (burnOf j image base i (value o))) w′ ((pick (eqb (value o) x) [] (operated j 0 (a + i) x) ++ rest) ++ L)
+        by : (w′ : World) → Read-on w (a + i) w′ → (t : Bool) → eqb (value o) x ≡ t
+            → Rest j image (turned seen (burnOf j image base i (value o))) w′ ((pick (eqb (value o) x) [] (operated j 0 (a + i) x) ++ rest) ++ L)
         by w′ z true t =
-            rest-is j image _ (turned seen (lookOf j base (i + 1))) w′ _ _ (ap (λ (b : Bool). turned seen (pick b (lookOf j base (i + 1)) (beginOf j Burning base i 0 x))) t)
-            (ap (λ (b : Bool). (pick b [] (operated j 0 (a + i) x) ++ rest) ++ L) t ∙ ahead w′ (ap (drop (a + (i + 1))) (z .cells)))
-            (ih seen w′ D L (omega arith) n (z .ready) (λ q le lt. ap (λ (l : List ℕ). bitAnd (value (getD l (a + q) 0)) (imageAt q)) (z .cells) ∙ b q (omega arith) lt) (ap (drop (a + j .size)) (z .cells) ∙ d) h)
+            rw (t, ahead w′ (ap (drop (a + (i + 1))) (z .cells)))
+            (ih seen w′ D L (omega arith) n (z .ready) (λ q le lt. rw (z .cells) (b q (omega arith) lt)) (ap (drop (a + j .size)) (z .cells) ∙ d) h)
         by w′ z false t =
-            rest-is j image _ (turned seen (beginOf j Burning base i 0 x)) w′ _ (operated j 0 (a + i) x ++ (rest ++ L)) (ap (λ (b : Bool). turned seen (pick b (lookOf j base (i + 1)) (beginOf j Burning base i 0 x))) t)
-            (ap (λ (b : Bool). (pick b [] (operated j 0 (a + i) x) ++ rest) ++ L) t ∙ append-assoc (operated j 0 (a + i) x) rest L)
-            (programs Burning i seen w′ (rest ++ L) k (z .ready) (ap (λ (l : List ℕ). bitAnd (value (getD l (a + i) 0)) (imageAt i)) (z .cells) ∙ b i (le-refl i) k)
+            rw (t, append-assoc (operated j 0 (a + i) x) rest L)
+            (programs Burning i seen w′ (rest ++ L) k (z .ready) (rw (z .cells) (b i (le-refl i) k))
             (λ w″ g″ ec. let v = bitAnd (getD (w′ .cells) (a + i) 0) x in
             let cs : w″ .cells ≡ set (w .cells) (a + i) v = ec ∙ ap (λ (l : List ℕ). set l (a + i) v) (z .cells) in
             rest-is j image _ _ w″ _ _ refl (ahead w″ (ap (drop (a + (i + 1))) cs ∙ drop-set-lt (a + (i + 1)) (w .cells) (a + i) v (omega arith)))
             (ih seen w″ D L (omega arith) n g″
-            (λ q le lt. ap (λ (l : List ℕ). bitAnd (value (getD l (a + q) 0)) (imageAt q)) cs ∙ (ap (λ (y : ℕ). bitAnd (value y) (imageAt q)) (later-cells i q (w .cells) v (omega arith)) ∙ b q (omega arith) lt))
+            (λ q le lt. rw (cs, later-cells i q (w .cells) v (omega arith)) (b q (omega arith) lt))
             (ap (drop (a + j .size)) cs ∙ (beyond i (w .cells) v k ∙ d)) h)))
 
     looking : (m i : ℕ) → Looks m i
     unfolding looks lookOf
     looking zero i = λ seen w D L e n g b d h.
-        rest-is j image _ (turned seen (nextSector j (base + j .size))) w _ L (ap (λ (b : Bool). turned seen (pick b (readsCell j Looking base i) (nextSector j (base + j .size)))) (le-ltb i (j .size) (omega arith))) refl (h seen w n g d)
+        rw (le-ltb i (j .size) (omega arith)) (h seen w n g d)
     looking (suc m) i = look-more m i (looking m (i + 1))
 
     -- ---- the decision
@@ -392,10 +384,9 @@ module _ (j : Job) (image : List ℕ) (R : AcceptedJob j image) where
           let X = carries j a l v (decidedOn j l v) in
           let z : a + 0 ≡ a = omega arith in
           let m : suc (j .size - 1) ≡ j .size = omega arith in
-          rest-is j image _ (turned seen (readsCell j Scanning base 0)) w _ (scans j (a + 0) (suc (j .size - 1)) ++ (X ++ L))
-          (ap (λ (b : Bool). turned seen (pick b (readsCell j Scanning base 0) (Stop 0))) (lt-ltb base (j .count) (omega arith)))
-          (append-assoc (scans j a (j .size)) X L ∙ sym (rw (z, m)))
-          (scanning (j .size - 1) 0 seen w (X ++ L) (omega arith) most g (n, refl) (deciding (w .cells) D L some d h))
+          rw (lt-ltb base (j .count) (omega arith))
+          (rest-is j image _ _ w _ (scans j (a + 0) (suc (j .size - 1)) ++ (X ++ L)) refl (append-assoc (scans j a (j .size)) X L ∙ sym (rw (z, m)))
+          (scanning (j .size - 1) 0 seen w (X ++ L) (omega arith) most g (n, refl) (deciding (w .cells) D L some d h)))
 
   -- ---- all sectors
   module _ (some : 0 < j .size) (most : j .size ≤ 4096) where
@@ -403,7 +394,7 @@ module _ (j : Job) (image : List ℕ) (R : AcceptedJob j image) where
         → Rest j image (turned seen (nextSector j base)) w (sectorsSent j (j .first + base) n (drop (j .first + base) (w .cells)) (drop base image))
     unfolding nextSector sectorsSent
     sectors zero base seen w e m l g =
-        rest-is j image _ (turned seen (Stop 0)) w _ [] (ap (λ (b : Bool). turned seen (pick b (readsCell j Scanning base 0) (Stop 0))) (le-ltb base (j .count) (omega (arith, zero-mul (j .size))))) refl (rest-none j image seen w)
+        rw (le-ltb base (j .count) (omega (arith, zero-mul (j .size)))) (rest-none j image seen w)
     sectors (suc n) base seen w e m l g =
         let i : base + j .size ≤ j .count = omega (arith, suc-mul n (j .size)) in
         let x : base + j .size + n * j .size ≡ j .count = omega (arith, suc-mul n (j .size)) in

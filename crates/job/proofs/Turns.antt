@@ -1,5 +1,5 @@
 -- A turn of each loop over lists: the search for a rising bit, the values passed over, those that fit, and the sum.
-use mathlib.Core.Path.{_≡_, refl, sym, _∙_}
+use mathlib.Core.Path.{_≡_, refl, sym, ap, _∙_}
 use mathlib.Core.Bool.{Bool, true, false}
 use mathlib.Core.List.{List, [], _∷_}
 use Prim.Native.Nat.{ℕ, suc, zero-le, _+_, _-_, _/_, _%_, _<_, _≤_}
@@ -10,7 +10,9 @@ use lib.Dec.{eqb, leb}
 use lib.ListN.{length, getD, take, drop, drop-of-length-le, length-take, length-drop}
 use Rattle.parts.proofs.Every.{split}
 use lib.Seq.{drop-cons}
-use Rattle.parts.specs.Width.{valueOf, fitsIn}
+use Rattle.parts.specs.Width.{valueOf, fitsIn, blankOf}
+use Rattle.job.specs.declared.loader.Job.{Job}
+use Rattle.job.specs.Loader.{nextMark}
 use Rattle.job.specs.declared.search.Rise.the-variants.{At, Nowhere}
 use Rattle.job.specs.Search.{riseIn, riseFrom, leadingOf}
 use Rattle.job.specs.Total.{totalOf}
@@ -106,3 +108,11 @@ leading-le v (x ∷ xs) = split (λ (n : ℕ). n ≤ suc (length xs)) (eqb x v) 
 
 pub part-length : (l : List ℕ) (a n : ℕ) → a + n ≤ length l → length (take n (drop a l)) ≡ n
 part-length l a n h = simp (length-take, length-drop) (omega arith)
+
+pub leading-part : (v : ℕ) (l : List ℕ) (a n : ℕ) → a + n ≤ length l → leadingOf v (take n (drop a l)) ≤ n
+leading-part v l a n h = omega (arith, leading-le v (take n (drop a l)), part-length l a n h)
+
+-- n more blank values of an image in front of its next mark
+pub next-mark : (j : Job) (image : List ℕ) (base i b n : ℕ) → b ≡ blankOf (j .row .width)
+    → n ≡ leadingOf b (take (base + j .size - (base + i)) (drop (base + i) image)) → nextMark j image base i ≡ i + n
+next-mark j image base i b n q h = let e : base + j .size - (base + i) ≡ j .size - i = omega arith in ap (λ (n : ℕ). i + n) (sym (rw (e, q) at h))

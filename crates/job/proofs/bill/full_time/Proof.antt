@@ -24,7 +24,8 @@ mul-result-2 c = let b = c .before .before .before .before in
 add-result : tie.Need-add-result
 add-result c = let b = c .before .before .before .before in
     let j = b .args .job in
-    omega (arith, ap (λ (n : ℕ). j .count / j .size * n) (c .before .before .before .operation-time .ensures), ap (λ (n : ℕ). j .count * n) (c .before .before .operation-time2 .ensures), erases-fit j (b .pre), programs-fit j (b .pre))
+    let e = ap (λ (n : ℕ). j .count / j .size * n) (c .before .before .before .operation-time .ensures) in
+    omega (arith, e, ap (λ (n : ℕ). j .count * n) (c .before .before .operation-time2 .ensures), erases-fit j (b .pre), programs-fit j (b .pre))
 
 returns : tie.Need-returns
 unfolding fullOf

@@ -16,10 +16,14 @@ abbrev μ-loop : tie.MeasureT-loop
 μ-loop width image i₀ i = length image - i
 
 returns : tie.Need-returns Inv-loop μ-loop
-returns c = sym (c .before .before .before .before .loop .inv .1 ∙ fit-ends (c .before .before .before .before .before .before .args .width) (c .before .before .before .before .before .before .args .image .now) (c .before .before .before .before .loop .i) (search needs) (sym (c .before .fits2 .ensures) ∙ not-true _ (c .if1 .taken)))
+returns c = let at = c .before .before .before .before in
+    let g = at .before .before .args in
+    sym (at .loop .inv .1 ∙ fit-ends (g .width) (g .image .now) (at .loop .i) (search needs) (sym (c .before .fits2 .ensures) ∙ not-true _ (c .if1 .taken)))
 
 loop-again : tie.Need-loop-again Inv-loop μ-loop
-loop-again c = (search needs, c .before .before .before .before .loop .inv .1 ∙ fit-more (c .before .before .before .before .before .before .args .width) (c .before .before .before .before .before .before .args .image .now) (c .before .before .before .before .loop .i) (search needs) (sym (c .before .fits2 .ensures) ∙ not-false _ (c .if1 .left)))
+loop-again c = let at = c .before .before .before .before in
+    let g = at .before .before .args in
+    (search needs, at .loop .inv .1 ∙ fit-more (g .width) (g .image .now) (at .loop .i) (search needs) (sym (c .before .fits2 .ensures) ∙ not-false _ (c .if1 .left)))
 
 returns-2 : tie.Need-returns-2 Inv-loop μ-loop
 returns-2 c = sym (c .before .loop .inv .1 ∙ fit-none (c .before .before .before .args .width) (c .before .before .before .args .image .now) (c .before .loop .i) (search needs))

@@ -11,16 +11,14 @@ use Rattle.job.proofs.refusal.range_refusal.Statement.{statement}
 use Rattle.job.proofs.refusal.range_refusal.Tie as tie
 
 rem-if1 : tie.Need-rem-if1
-unfolding rangeRefusal
-rem-if1 c = let e = c .sector-size .ensures in omega (arith, e, sector-some (c .before .before .args .row .width))
+rem-if1 c = omega (arith, c .sector-size .ensures, sector-some (c .before .before .args .row .width))
 
 returns : tie.Need-returns
 unfolding rangeRefusal
 returns c = let e = c .before .sector-size .ensures in simp (sym e, lt-ltb _ _ (c .if1 .taken))
 
 rem-if2 : tie.Need-rem-if2
-unfolding rangeRefusal
-rem-if2 c = let e = c .before .sector-size .ensures in omega (arith, e, sector-some (c .before .before .before .args .row .width))
+rem-if2 c = omega (arith, c .before .sector-size .ensures, sector-some (c .before .before .before .args .row .width))
 
 returns-2 : tie.Need-returns-2
 unfolding rangeRefusal
@@ -28,19 +26,28 @@ returns-2 c = let e = c .before .before .sector-size .ensures in simp (sym e, le
 
 returns-3 : tie.Need-returns-3
 unfolding rangeRefusal
-returns-3 c = let e = c .before .before .before .before .before .sector-size .ensures in simp (sym e, le-ltb _ _ (c .before .before .before .before .if1 .left), le-ltb _ _ (c .before .before .before .if2 .left), sym (c .before .within .ensures) ∙ not-true _ (c .if3 .taken))
+returns-3 c = let at = c .before .before .before in
+    simp (sym (at .before .before .sector-size .ensures), le-ltb _ _ (at .before .if1 .left), le-ltb _ _ (at .if2 .left), sym (c .before .within .ensures) ∙ not-true _ (c .if3 .taken))
 
 returns-4 : tie.Need-returns-4
 unfolding rangeRefusal
-returns-4 c = let e = c .before .before .before .before .before .before .before .sector-size .ensures in simp (sym e, le-ltb _ _ (c .before .before .before .before .before .before .if1 .left), le-ltb _ _ (c .before .before .before .before .before .if2 .left), sym (c .before .before .before .within .ensures) ∙ not-false _ (c .before .before .if3 .left), sym (c .before .all-fit .ensures) ∙ not-true _ (c .if4 .taken))
+returns-4 c = let w = c .before .before in
+    let at = w .before .before .before in
+    let f = sym (c .before .all-fit .ensures) ∙ not-true _ (c .if4 .taken) in
+    simp (sym (at .before .before .sector-size .ensures), le-ltb _ _ (at .before .if1 .left), le-ltb _ _ (at .if2 .left), sym (w .before .within .ensures) ∙ not-false _ (w .if3 .left), f)
 
 protection-refusal-requires : tie.Need-protection-refusal-requires
-unfolding rangeRefusal
-protection-refusal-requires c κs = let h = leb-true (c .before .before .before .before .before .before .before .before .before .args .first + length (c .before .before .before .before .before .before .before .before .before .args .image .now)) (c .before .before .before .before .before .before .before .before .before .args .row .cells) (sym (c .before .before .before .within .ensures) ∙ not-false _ (c .before .before .if3 .left)) in omega arith
+protection-refusal-requires c κs = let w = c .before .before in
+    let g = w .before .before .before .before .before .before .before .args in
+    omega (arith, leb-true (g .first + length (g .image .now)) (g .row .cells) (sym (w .before .within .ensures) ∙ not-false _ (w .if3 .left)))
 
 returns-5 : tie.Need-returns-5
 unfolding rangeRefusal
-returns-5 c = let e = c .before .before .before .before .before .before .before .before .sector-size .ensures in simp (sym e, le-ltb _ _ (c .before .before .before .before .before .before .before .if1 .left), le-ltb _ _ (c .before .before .before .before .before .before .if2 .left), sym (c .before .before .before .before .within .ensures) ∙ not-false _ (c .before .before .before .if3 .left), sym (c .before .before .all-fit .ensures) ∙ not-false _ (c .before .if4 .left)) (c .protection-refusal .ensures)
+returns-5 c = let w = c .before .before .before in
+    let at = w .before .before .before in
+    let f = sym (c .before .before .all-fit .ensures) ∙ not-false _ (c .before .if4 .left) in
+    simp (sym (at .before .before .sector-size .ensures), le-ltb _ _ (at .before .if1 .left), le-ltb _ _ (at .if2 .left), sym (w .before .within .ensures) ∙ not-false _ (w .if3 .left), f)
+    (c .protection-refusal .ensures)
 
 pub range-refusal-spec : {M : Type 1} → statement M
 range-refusal-spec =

@@ -7,11 +7,11 @@ use Rattle.job.proofs.run.send.Statement.{statement}
 use Rattle.job.proofs.run.send.Tie as tie
 
 add-t15 : tie.Need-add-t15
-add-t15 c = omega (arith, c .before .before .before .before .before .before .before .before .before .before .before .pre .1)
+add-t15 c = let at = c .before .before .before .before .before in omega (arith, at .before .before .before .before .before .before .pre .1)
 
 returns : tie.Need-returns
 unfolding sendOf
-returns c = simp (c .before .before .counted .ensures, c .before .last-of .ensures, c .before .before .before .before .before .before .bus-cycle .ensures .0) (refl, c .before .before .before .before .before .before .bus-cycle .ensures .1)
+returns c = let o = c .before .before .before .before .before .before .bus-cycle .ensures in simp (c .before .before .counted .ensures, c .before .last-of .ensures, o .0) (refl, o .1)
 
 pub send-spec : {M : Type 1} → statement M
 send-spec =

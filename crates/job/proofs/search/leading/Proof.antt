@@ -16,10 +16,11 @@ abbrev μ-loop : tie.MeasureT-loop
 μ-loop values v i₀ i = length values - i
 
 returns : tie.Need-returns Inv-loop μ-loop
-returns c = omega (arith, c .before .before .before .loop .inv .1, front-ends (c .before .before .before .before .args .v) (c .before .before .before .before .args .values .now) (c .before .before .before .loop .i) (search needs) (c .if1 .taken))
+returns c = let at = c .before .before .before in omega (arith, at .loop .inv .1, front-ends (at .before .args .v) (at .before .args .values .now) (at .loop .i) (search needs) (c .if1 .taken))
 
 loop-again : tie.Need-loop-again Inv-loop μ-loop
-loop-again c = (search needs, omega (arith, c .before .before .before .loop .inv .1, front-more (c .before .before .before .before .args .v) (c .before .before .before .before .args .values .now) (c .before .before .before .loop .i) (search needs) (c .if1 .left)))
+loop-again c = let at = c .before .before .before in
+    (search needs, omega (arith, at .loop .inv .1, front-more (at .before .args .v) (at .before .args .values .now) (at .loop .i) (search needs) (c .if1 .left)))
 
 returns-2 : tie.Need-returns-2 Inv-loop μ-loop
 returns-2 c = omega (arith, c .before .loop .inv .1, front-none (c .before .before .args .v) (c .before .before .args .values .now) (c .before .loop .i) (search needs))

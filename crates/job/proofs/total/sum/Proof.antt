@@ -16,10 +16,13 @@ abbrev μ-loop : tie.MeasureT-loop
 μ-loop cells width acc₀ i₀ acc i = length cells - i
 
 loop-again : tie.Need-loop-again Inv-loop μ-loop
-loop-again c = (search needs, (search needs, omega (arith, c .before .before .before .before .loop .inv .1 .1, total-more (c .before .before .before .before .before .before .args .width) (c .before .before .before .before .before .before .args .cells .now) (c .before .before .before .before .loop .i) (search needs), c .wrapping-add-u16 .ensures, c .before .value .ensures)))
+loop-again c = let at = c .before .before .before .before in
+    let g = at .before .before .args in
+    (search needs, (search needs, omega (arith, at .loop .inv .1 .1, total-more (g .width) (g .cells .now) (at .loop .i) (search needs), c .wrapping-add-u16 .ensures, c .before .value .ensures)))
 
 returns : tie.Need-returns Inv-loop μ-loop
-returns c = omega (arith, c .before .loop .inv .1 .0, c .before .loop .inv .1 .1, total-none (c .before .before .before .args .width) (c .before .before .before .args .cells .now) (c .before .loop .i) (search needs))
+returns c = let at = c .before in
+    omega (arith, at .loop .inv .1 .0, at .loop .inv .1 .1, total-none (at .before .before .args .width) (at .before .before .args .cells .now) (at .loop .i) (search needs))
 
 pub sum-spec : {M : Type 1} → statement M
 sum-spec =
