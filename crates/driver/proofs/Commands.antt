@@ -124,7 +124,8 @@ module _ (part : ℕ) (known : partRefusal part ≡ 0) (command a x : ℕ) (targ
   pub last-fits : fitsIn (rowOf part .width) (lastWrite (rowOf part) command a x .«data») ≡ true
   unfolding lastWrite
   last-fits =
-      four Fits (λ t. t .fits refl) (λ t. byte-fits part known _ (sector-byte part known)) (λ t. byte-fits part known _ (block-byte part known)) (λ t. byte-fits part known 0x10 (omega arith)) command few target
+      four Fits (λ t. t .fits refl) (λ t. byte-fits part known _ (sector-byte part known))
+      (λ t. byte-fits part known _ (block-byte part known)) (λ t. byte-fits part known 0x10 (omega arith)) command few target
     where
       Fits : ℕ → Type 0
       Fits k = Target (rowOf part) k a x → fitsIn (rowOf part .width) (lastWrite (rowOf part) k a x .«data») ≡ true
@@ -167,7 +168,8 @@ module _ (part : ℕ) (known : partRefusal part ≡ 0) (cells : List ℕ) (whole
 
   -- a command's writes leave the cells, and start its operation and no other
   pub command-leads : (command a x : ℕ) → Target (rowOf part) command a x → ignored (rowOf part) wp command a ≡ false
-      → Leads part (chip cells (device k 0)) (writeCycles wp (writesOf (rowOf part) command a x)) (chip cells (device (busyWith k (operationOf (rowOf part) command a x)) 0)) (operationOf (rowOf part) command a x ∷ [])
+      → Leads part (chip cells (device k 0)) (writeCycles wp (writesOf (rowOf part) command a x))
+      (chip cells (device (busyWith k (operationOf (rowOf part) command a x)) 0)) (operationOf (rowOf part) command a x ∷ [])
   unfolding writesOf
   command-leads command a x target i =
       split Leading (eqb command 0) _ _

@@ -90,12 +90,15 @@ module _ (A : Type 0) (g : Phase → ℕ → Action → A) where
       long : length (writesOf (rowOf (d .part)) (d .command) (d .address) (d .«data»)) ≡ writeCount (d .command)
       long = write-length (rowOf (d .part)) (d .command) (d .address) (d .«data»)
 
+      and-then : (x : A) → W ++ (P (d .count) ++ (x ∷ [])) ≡ (W ++ (P (d .count) ++ [])) ++ (x ∷ [])
+      and-then x = sym (append-assoc W (P (d .count)) (x ∷ [])) ∙ ap (λ (l : List A). (W ++ l) ++ (x ∷ [])) (sym (append-nil (P (d .count))))
+
       go : (s : Step) → Way d s → namedBy (s .driver) ≡ namedBy d ++ now (s .next) (s .driver .phase)
       go s (refused f) = apart (sym f ∙ e)
       go s (writes q l) = rw q (a-write (writesOf (rowOf (d .part)) (d .command) (d .address) (d .«data»)) (d .count) (rw long l))
       go s (wrote q l) = rw q (append-nil W ∙ last-write (writesOf (rowOf (d .part)) (d .command) (d .address) (d .«data»)) (d .count) (rw long l))
-      go s (waits q l) = rw q (ap (λ (l : List A). W ++ l) (one-more (d .count) (pollOf d)) ∙ (sym (append-assoc W (P (d .count)) (pollOf d ∷ [])) ∙ ap (λ (l : List A). (W ++ l) ++ (pollOf d ∷ [])) (sym (append-nil (P (d .count))))))
-      go s (matched q l m) = rw q (sym (append-assoc W (P (d .count)) (confirmOf d ∷ [])) ∙ ap (λ (l : List A). (W ++ l) ++ (confirmOf d ∷ [])) (sym (append-nil (P (d .count)))))
+      go s (waits q l) = rw q (ap (λ (l : List A). W ++ l) (one-more (d .count) (pollOf d)) ∙ and-then (pollOf d))
+      go s (matched q l m) = rw q (and-then (confirmOf d))
       go s (ends f i z c h) = rw (c .0, c .1) (sym (append-nil (namedBy d)))
 
   -- ---- a talk: what its steps name, from one that stands on
@@ -139,7 +142,9 @@ module _ (A : Type 0) (g : Phase → ℕ → Action → A) where
   talk-on part wp n before s h i ih (Send e a) q =
       let c = cycle e wp a in
       let v = shows part h c in
-      rw (talk-goes part wp n s h e a q, spoken-goes part wp n s h e a q) (moves before s (talk part wp n (stepOf (s .driver) v) (after part h c) .last) e a _ v q i (ih (before ++ (g (s .driver .phase) e a ∷ [])) (stepOf (s .driver) v) (after part h c) (keeps (s .driver) v i)))
+      rw (talk-goes part wp n s h e a q, spoken-goes part wp n s h e a q)
+      (moves before s (talk part wp n (stepOf (s .driver) v) (after part h c) .last) e a _ v q i
+      (ih (before ++ (g (s .driver .phase) e a ∷ [])) (stepOf (s .driver) v) (after part h c) (keeps (s .driver) v i)))
 
   pub talk-adds : (part : ℕ) (wp : Bool) (n : ℕ) (before : List A) (s : Step) (h : Chip) → inRange (s .driver) ≡ true → Adds before s (talk part wp n s h .last) (spoken part wp n s h)
   unfolding talk spoken

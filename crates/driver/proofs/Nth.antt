@@ -1,43 +1,50 @@
 -- The writes of a command one by one, whichever the command.
 use Prim.Native.Nat.{ℕ, _+_, _≤_, _<_}
-use mathlib.Core.Path.{_≡_, refl, ap}
-use mathlib.Core.Bool.{Bool, true, false}
-use mathlib.Core.List.{List, [], _∷_}
+use mathlib.Core.Path.{_≡_, refl, _∙_}
+use mathlib.Core.Bool.{true, false}
+use mathlib.Core.List.{List}
 use native.Mathlib.Omega.{arith}
+use lib.Dec.{eqb}
 use lib.ListN.{getD}
 use Rattle.parts.specs.Pick.{pick}
 use Rattle.parts.specs.declared.table.Row.{Row}
+use Rattle.parts.proofs.Every.{split}
 use Rattle.commands.specs.declared.write.Write.{Write}
-use Rattle.driver.specs.Writes.{noWrite, unlock, write}
+use Rattle.driver.specs.Writes.{noWrite, write, lastWrite, writesOf, writeCount, nthWrite}
 
--- the writes of program, or of an erase, with the last one
-abbrev pub listed : Bool → Row → Write → List Write
-listed b r l =
-    pick b (unlock r (write (r .u1) 0xa0 ∷ l ∷ []))
-    (unlock r (write (r .u1) 0x80 ∷ unlock r (l ∷ [])))
+-- what stands at a place of a list
+abbrev At : ℕ → Write → List Write → Type 0
+At k w ws = getD ws k noWrite ≡ w
 
-pub first-at : (b : Bool) (r : Row) (l : Write) → getD (listed b r l) 0 noWrite ≡ write (r .u1) 0xaa
-first-at true r l = refl
-first-at false r l = refl
+module _ (r : Row) (command a x k : ℕ) where
+  pub first-at : k ≡ 0 → nthWrite r command a x k ≡ write (r .u1) 0xaa
+  unfolding writesOf
+  first-at e = rw e (split (At 0 (write (r .u1) 0xaa)) (eqb command 0) _ _ (λ _. refl) (λ _. refl))
 
-pub second-at : (b : Bool) (r : Row) (l : Write) → getD (listed b r l) 1 noWrite ≡ write (r .u2) 0x55
-second-at true r l = refl
-second-at false r l = refl
+  pub second-at : k ≡ 1 → nthWrite r command a x k ≡ write (r .u2) 0x55
+  unfolding writesOf
+  second-at e = rw e (split (At 1 (write (r .u2) 0x55)) (eqb command 0) _ _ (λ _. refl) (λ _. refl))
 
-pub third-at : (b : Bool) (r : Row) (l : Write) → getD (listed b r l) 2 noWrite ≡ write (r .u1) (pick b 0xa0 0x80)
-third-at true r l = refl
-third-at false r l = refl
+  pub third-at : k ≡ 2 → nthWrite r command a x k ≡ write (r .u1) (pick (eqb command 0) 0xa0 0x80)
+  unfolding writesOf
+  third-at e = rw e (split (At 2 (write (r .u1) (pick (eqb command 0) 0xa0 0x80))) (eqb command 0) _ _ (λ z. rw z) (λ z. rw z))
 
--- one that is not the last
-pub fourth-at : (b : Bool) (r : Row) (l : Write) → (_≡_ {A = ℕ} 4 (pick b 4 6) → ⊥) → getD (listed b r l) 3 noWrite ≡ write (r .u1) 0xaa
-fourth-at true r l n = absurd (n refl)
-fourth-at false r l n = refl
+  -- of n writes: one that is not the last
+  module _ (n : ℕ) (count : n ≡ writeCount command) where
+    pub fourth-at : k ≡ 3 → (k + 1 ≡ n → ⊥) → nthWrite r command a x k ≡ write (r .u1) 0xaa
+    unfolding writesOf writeCount
+    fourth-at e h = split (At k (write (r .u1) 0xaa)) (eqb command 0) _ _ (λ z. let q : n ≡ 4 = rw z at count in absurd (omega arith)) (λ z. rw e)
 
-pub fifth-at : (b : Bool) (r : Row) (l : Write) (k : ℕ) → 4 ≤ k → k < pick b 4 6 → (k + 1 ≡ pick b 4 6 → ⊥) → getD (listed b r l) k noWrite ≡ write (r .u2) 0x55
-fifth-at true r l k m h n = absurd (omega arith)
-fifth-at false r l k m h n = let e : k ≡ 4 = omega arith in ap (λ (i : ℕ). getD (listed false r l) i noWrite) e
+    pub fifth-at : 4 ≤ k → k < writeCount command → (k + 1 ≡ n → ⊥) → nthWrite r command a x k ≡ write (r .u2) 0x55
+    unfolding writesOf writeCount
+    fifth-at l m h =
+        split (At k (write (r .u2) 0x55)) (eqb command 0) _ _ (λ z. let q : n ≡ 4 = rw z at count in absurd (omega (arith, count)))
+        (λ z. let q : n ≡ 6 = rw z at count in let e : k ≡ 4 = omega (arith, count) in rw e)
 
--- the last
-pub last-at : (b : Bool) (r : Row) (l : Write) (k : ℕ) → k + 1 ≡ pick b 4 6 → getD (listed b r l) k noWrite ≡ l
-last-at true r l k h = let e : k ≡ 3 = omega arith in ap (λ (i : ℕ). getD (listed true r l) i noWrite) e
-last-at false r l k h = let e : k ≡ 5 = omega arith in ap (λ (i : ℕ). getD (listed false r l) i noWrite) e
+    -- the last
+    pub last-at : k + 1 ≡ n → nthWrite r command a x k ≡ lastWrite r command a x
+    unfolding writesOf writeCount
+    last-at h =
+        split (At k (lastWrite r command a x)) (eqb command 0) _ _
+        (λ z. let q : k + 1 ≡ 4 = h ∙ (rw z at count) in let e : k ≡ 3 = omega arith in rw e)
+        (λ z. let q : k + 1 ≡ 6 = h ∙ (rw z at count) in let e : k ≡ 5 = omega arith in rw e)

@@ -18,7 +18,8 @@ use Rattle.driver.specs.declared.machine.Next.the-variants.{Nothing, Sen
 use Rattle.driver.specs.declared.machine.Step.{Step}
 use Rattle.driver.specs.Refusals.{startRefusal}
 use Rattle.driver.specs.Writes.{writeCount}
-use Rattle.driver.specs.Machine.{mostPolls, someUpTo, countFits, inRange, moved, step, ending, final, writing, confirmed, ended, valueWanted, afterWrite, nextWrite, writingOf, polls, confirms, matches, pollingOf, confirmingOf, phaseOf, stepOf}
+use Rattle.driver.specs.Machine.{mostPolls, someUpTo, countFits, inRange, moved, step, ending, final, writing, confirmed, ended}
+use Rattle.driver.specs.Machine.{valueWanted, afterWrite, nextWrite, writingOf, polls, confirms, matches, pollingOf, confirmingOf, phaseOf, stepOf}
 use Rattle.driver.proofs.Ready.{valid-count}
 
 -- a step of a state in range, and of one that is not
@@ -61,7 +62,8 @@ pub data Way (d : Driver) : Step → Type 0 where
   wrote : d .phase ≡ Writing → d .count + 1 ≡ writeCount (d .command) → Way d (step 0 (moved d Polling 0) (Send 0 (writeNext d)) 0)
   waits : d .phase ≡ Polling → d .count < most d → Way d (polls d)
   matched : d .phase ≡ Polling → 0 < d .count → d .count ≤ most d → Way d (confirms d)
-  ends : (f : Phase) → inRange d ≡ true → final f ≡ true → (writing f ≡ writing (d .phase)) × (confirmed f ≡ confirmed (d .phase)) → countFits f (writeCount (d .command)) (most d) (d .count) ≡ true → Way d (ended d f)
+  ends : (f : Phase) → inRange d ≡ true → final f ≡ true → (writing f ≡ writing (d .phase)) × (confirmed f ≡ confirmed (d .phase))
+      → countFits f (writeCount (d .command)) (most d) (d .count) ≡ true → Way d (ended d f)
 
 module _ (d : Driver) (read : ℕ) (e : inRange d ≡ true) where
   fits : (f : Phase) → d .phase ≡ f → countFits f (writeCount (d .command)) (most d) (d .count) ≡ true

@@ -42,7 +42,8 @@ use Rattle.driver.specs.declared.machine.Next.the-variants.{Nothing, Sen
 use Rattle.driver.specs.declared.machine.Step.{Step}
 use Rattle.driver.specs.Refusals.{startRefusal}
 use Rattle.driver.specs.Writes.{write, noWrite, lastWrite, writesOf, writeCount, nthWrite}
-use Rattle.driver.specs.Machine.{mostPolls, countFits, inRange, moved, step, ended, addressOf, bitSeven, bitWanted, valueWanted, afterWrite, writingOf, polls, confirmAfter, matches, pollingOf, confirmingOf, phaseOf, stepOf}
+use Rattle.driver.specs.Machine.{mostPolls, countFits, inRange, moved, step, ended, addressOf, bitSeven, bitWanted, valueWanted}
+use Rattle.driver.specs.Machine.{afterWrite, writingOf, polls, confirmAfter, matches, pollingOf, confirmingOf, phaseOf, stepOf}
 use Rattle.driver.specs.Talk.{writeCycle, writeCycles, operationOf, Told, told, led, shows, talk}
 use Rattle.driver.specs.Reads.{Due, Scans, Polls, Confirms, begins, passes, Place, ARead, NoRead, placesIn}
 use Rattle.driver.proofs.Asked.{Begun, begun}
@@ -81,14 +82,14 @@ silent {A} e a q = let z : _≡_ {A = ℕ} 0 1 = cc in absurd (omega arith)
 module _ (part : ℕ) (wp : Bool) (m : ℕ) (t : Step) (h : Chip) where
   pub talk-stops : t .next ≡ Nothing → talk part wp (suc m) t h ≡ told [] h t
   unfolding talk
-  talk-stops q = by (t .next) q
+  talk-stops q = by (t .next) _ q
     where
-      by : (x : Next) → x ≡ Nothing
-          → _≡_ {A = Told} (elim x [ Nothing ↦ told [] h t | Send e a ↦ led (cycle e wp a) (talk part wp m (stepOf (t .driver) (shows part h (cycle e wp a))) (after part h (cycle e wp a))) ]) (told [] h t)
-      by Nothing q = refl
-      by (Send e a) q = silent e a (sym q)
+      by : (x : Next) (f : ℕ → Action → Told) → x ≡ Nothing → _≡_ {A = Told} (elim x [ Nothing ↦ told [] h t | Send e a ↦ f e a ]) (told [] h t)
+      by Nothing f q = refl
+      by (Send e a) f q = silent e a (sym q)
 
-  pub talk-goes : (e : ℕ) (a : Action) → t .next ≡ Send e a → talk part wp (suc m) t h ≡ led (cycle e wp a) (talk part wp m (stepOf (t .driver) (shows part h (cycle e wp a))) (after part h (cycle e wp a)))
+  pub talk-goes : (e : ℕ) (a : Action) → t .next ≡ Send e a
+      → talk part wp (suc m) t h ≡ led (cycle e wp a) (talk part wp m (stepOf (t .driver) (shows part h (cycle e wp a))) (after part h (cycle e wp a)))
   unfolding talk
   talk-goes e a q = rw (q, talk)
 
@@ -124,7 +125,8 @@ writes-placed part u h wp (w ∷ ws) cs =
     let v = begins u (startedBy part h c) in
     ap (λ (ps : List Place). NoRead ∷ ps)
     (writes-placed part v (after part h c) wp ws cs
-    ∙ ap (λ (u : Due). replicate (length ws) NoRead ++ placesIn part u (play part (after part h c) (writeCycles wp ws)) cs) (begins-append u (startedBy part h c) (startedIn part (after part h c) (writeCycles wp ws))))
+    ∙ ap (λ (u : Due). replicate (length ws) NoRead ++ placesIn part u (play part (after part h c) (writeCycles wp ws)) cs)
+    (begins-append u (startedBy part h c) (startedIn part (after part h c) (writeCycles wp ws))))
 
 -- ---- a driver whose start is accepted
 module _ (b : Driver) (accepted : startRefusal (b .part) (b .command) (b .address) (b .«data») (b .p) ≡ 0) (wp : Bool) where

@@ -42,4 +42,6 @@ below-take k (suc n) (x ∷ xs) s b (suc i) = below-take k n xs s (λ j. b (suc 
 -- the bytes of a field
 pub field-bytes : (bytes : List ℕ) (a n : ℕ) → a + n ≤ length bytes → Below 256 bytes → bytesOf n (field bytes a n) ≡ take n (drop a bytes)
 unfolding field
-field-bytes bytes a n h b = bytes-number n (take n (drop a bytes)) (length-take-le n (drop a bytes) (omega (arith, length-drop a bytes))) (below-take 256 n (drop a bytes) (omega arith) (below-drop 256 a bytes b))
+field-bytes bytes a n h b =
+    bytes-number n (take n (drop a bytes)) (length-take-le n (drop a bytes) (omega (arith, length-drop a bytes)))
+    (below-take 256 n (drop a bytes) (omega arith) (below-drop 256 a bytes b))

@@ -10,17 +10,15 @@ use Rattle.driver.proofs.machine.start_on.Tie as tie
 
 returns : tie.Need-returns
 unfolding startOf
-returns c = let g = c .before .before .before .args in
-    let q = c .before .before .start-refusal in
-    let h = start-found (g .found) (g .part) (g .command) (g .address) (g .«data») (q .result) (c .before .before .before .pre) (g .p) (q .ensures) in
-    simp (sym h, ne-eqb (c .before .before .start-refusal .result) 0 (λ z. omega arith), c .begin .ensures)
+returns c = let q = c .before .before .start-refusal in
+    let h = start-found _ _ _ _ _ _ (c .before .before .before .pre) _ (q .ensures) in
+    simp (sym h, ne-eqb (q .result) 0 (λ z. omega arith), c .begin .ensures)
 
 returns-2 : tie.Need-returns-2
 unfolding startOf
-returns-2 c = let g = c .before .before .before .before .before .args in
-    let q = c .before .before .before .before .start-refusal in
-    let h = start-found (g .found) (g .part) (g .command) (g .address) (g .«data») (q .result) (c .before .before .before .before .before .pre) (g .p) (q .ensures) in
-    let z : c .before .before .before .before .start-refusal .result ≡ 0 = omega arith in
+returns-2 c = let at = c .before .before .before .before in
+    let h = start-found _ _ _ _ _ _ (at .before .pre) _ (at .start-refusal .ensures) in
+    let z : at .start-refusal .result ≡ 0 = omega arith in
     simp (sym h, eq-eqb _ _ z, c .begin2 .ensures, c .before .before .address-of .ensures, c .before .data-of .ensures)
 
 pub start-on-spec : {M : Type 1} → statement M

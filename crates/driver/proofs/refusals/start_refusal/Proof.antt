@@ -10,7 +10,7 @@ returns-2 : tie.Need-returns-2
 returns-2 c = simp (le-ltb _ _ (c .before .before .if1 .left), sym (c .before .is-interval .ensures) ∙ not-true _ (c .if2 .taken))
 
 returns-3 : tie.Need-returns-3
-returns-3 c = simp (le-ltb _ _ (c .before .before .before .before .if1 .left), sym (c .before .before .before .is-interval .ensures) ∙ not-false _ (c .before .before .if2 .left)) (c .target-refusal .ensures)
+returns-3 c = let at = c .before .before in simp (le-ltb _ _ (at .before .before .if1 .left), sym (at .before .is-interval .ensures) ∙ not-false _ (at .if2 .left)) (c .target-refusal .ensures)
 
 pub start-refusal-spec : {M : Type 1} → statement M
 start-refusal-spec =

@@ -12,21 +12,21 @@ use Rattle.driver.proofs.writes.command_writes.Tie as tie
 
 returns : tie.Need-returns
 unfolding commandWrites
-returns c = let h = command-found (c .before .before .part-row .result) (c .before .before .before .args .part) (c .before .before .before .args .command) (c .before .before .before .args .address) (c .before .before .before .args .«data») (c .before .command-refusal .result) (c .before .before .part-row .ensures) (c .before .command-refusal .ensures) in
+returns c = let h = command-found _ _ _ _ _ _ (c .before .before .part-row .ensures) (c .before .command-refusal .ensures) in
     simp (sym h, ne-eqb (c .before .command-refusal .result) 0 (λ z. omega arith))
 
 writes-of-requires : tie.Need-writes-of-requires
-writes-of-requires c κs = let h = command-found (c .before .before .before .part-row .result) (c .before .before .before .before .args .part) (c .before .before .before .before .args .command) (c .before .before .before .before .args .address) (c .before .before .before .before .args .«data») (c .before .before .command-refusal .result) (c .before .before .before .part-row .ensures) (c .before .before .command-refusal .ensures) in
-    let z : c .before .before .command-refusal .result ≡ 0 = omega arith in
-    let r = ap (λ (f : Found). f .row) (c .before .before .before .part-row .ensures) in
-    rw r (usual (c .before .before .before .before .args .part) (asked _ _ _ _ (sym h ∙ z) .known))
+writes-of-requires c κs = let at = c .before .before in
+    let h = command-found _ _ _ _ _ _ (at .before .part-row .ensures) (at .command-refusal .ensures) in
+    let z : at .command-refusal .result ≡ 0 = omega arith in
+    rw (ap (λ (f : Found). f .row) (at .before .part-row .ensures)) (usual _ (asked _ _ _ _ (sym h ∙ z) .known))
 
 returns-2 : tie.Need-returns-2
 unfolding commandWrites
-returns-2 c = let h = command-found (c .before .before .before .before .part-row .result) (c .before .before .before .before .before .args .part) (c .before .before .before .before .before .args .command) (c .before .before .before .before .before .args .address) (c .before .before .before .before .before .args .«data») (c .before .before .before .command-refusal .result) (c .before .before .before .before .part-row .ensures) (c .before .before .before .command-refusal .ensures) in
-    let z : c .before .before .before .command-refusal .result ≡ 0 = omega arith in
-    let r = ap (λ (f : Found). f .row) (c .before .before .before .before .part-row .ensures) in
-    simp (sym h, eq-eqb _ _ z, sym r) (c .writes-of .ensures)
+returns-2 c = let at = c .before .before .before in
+    let h = command-found _ _ _ _ _ _ (at .before .part-row .ensures) (at .command-refusal .ensures) in
+    let z : at .command-refusal .result ≡ 0 = omega arith in
+    simp (sym h, eq-eqb _ _ z, sym (ap (λ (f : Found). f .row) (at .before .part-row .ensures))) (c .writes-of .ensures)
 
 pub command-writes-spec : {M : Type 1} → statement M
 command-writes-spec =

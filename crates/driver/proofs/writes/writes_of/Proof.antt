@@ -7,11 +7,13 @@ use Rattle.driver.proofs.writes.writes_of.Tie as tie
 
 returns : tie.Need-returns
 unfolding writesOf writeCount
-returns c = simp (c .before .last-write .ensures, c .before .before .third-write .ensures, c .before .before .before .unlock-two .ensures, c .before .before .before .before .unlock-one .ensures, eq-eqb _ _ (c .if1 .taken))
+returns c = let at = c .before .before in
+    simp (c .before .last-write .ensures, at .third-write .ensures, at .before .unlock-two .ensures, at .before .before .unlock-one .ensures, eq-eqb _ _ (c .if1 .taken))
 
 returns-2 : tie.Need-returns-2
 unfolding writesOf writeCount
-returns-2 c = simp (c .before .last-write .ensures, c .before .before .third-write .ensures, c .before .before .before .unlock-two .ensures, c .before .before .before .before .unlock-one .ensures, ne-eqb _ _ (c .if1 .left))
+returns-2 c = let at = c .before .before in
+    simp (c .before .last-write .ensures, at .third-write .ensures, at .before .unlock-two .ensures, at .before .before .unlock-one .ensures, ne-eqb _ _ (c .if1 .left))
 
 pub writes-of-spec : {M : Type 1} → statement M
 writes-of-spec = tie.close (tie.spec (λ c κs. search needs) (λ c κs. search needs) (λ c κs. search needs) (λ c κs. search needs) returns returns-2)

@@ -8,7 +8,7 @@ use Rattle.jobfile.proofs.bytes.bytes_from.Statement.{statement}
 use Rattle.jobfile.proofs.bytes.bytes_from.Tie as tie
 
 returns : tie.Need-returns
-returns c = to-the-end _ (c .before .before .args .bytes .now) ∙ (drop-length (c .before .before .args .bytes .now) ∙ sym (drop-of-length-le (c .before .before .args .bytes .now) (c .before .if1 .taken)))
+returns c = let l = c .before .before .args .bytes .now in to-the-end _ l ∙ (drop-length l ∙ sym (drop-of-length-le l (c .before .if1 .taken)))
 
 returns-2 : tie.Need-returns-2
 returns-2 c = to-the-end (c .before .before .args .a) (c .before .before .args .bytes .now)

@@ -19,10 +19,12 @@ unfolding valuesOf
 loop-holds c = search needs
 
 loop-again : tie.Need-loop-again Inv-loop μ-loop
-loop-again c = (search needs, (search needs, written-more (c .before .before .before .before .before .args .bytes .now) (c .before .before .before .before .before .args .image .now) _ (c .before .before .loop .i) _ (c .before .before .loop .inv .1 .1) (c .two-bytes .ensures) (search needs)))
+loop-again c = let at = c .before .before in
+    (search needs, (search needs, written-more _ _ _ _ _ (at .loop .inv .1 .1) (c .two-bytes .ensures) (search needs)))
 
 returns : tie.Need-returns Inv-loop μ-loop
-returns c = c .before .loop .inv .1 .1 ∙ written-all (c .before .before .before .before .args .bytes .now) (c .before .before .before .before .args .image .now) (c .before .loop .i) (search needs) (search needs)
+returns c = let g = c .before .before .before .before .args in
+    c .before .loop .inv .1 .1 ∙ written-all (g .bytes .now) (g .image .now) (c .before .loop .i) (search needs) (search needs)
 
 pub read-values-spec : {M : Type 1} → statement M
 read-values-spec =

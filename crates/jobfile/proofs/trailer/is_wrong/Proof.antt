@@ -16,15 +16,21 @@ returns-2 c = simp (sym (c .before .before .before .one-byte .ensures), le-ltb 0
 
 returns-3 : tie.Need-returns-3
 unfolding wrong
-returns-3 c = simp (sym (c .before .before .before .before .before .one-byte .ensures), le-ltb 0 _ (c .before .before .before .before .if1 .left), sym (c .before .before .before .two-bytes .ensures), le-ltb 0 _ (c .before .before .if2 .left), sym (c .before .one-byte2 .ensures), lt-ltb 1 _ (c .if3 .taken))
+returns-3 c = let at = c .before .before in
+    simp (sym (at .before .before .before .one-byte .ensures), le-ltb 0 _ (at .before .before .if1 .left), sym (at .before .two-bytes .ensures), le-ltb 0 _ (at .if2 .left))
+    (simp (sym (c .before .one-byte2 .ensures), lt-ltb 1 _ (c .if3 .taken)))
 
 returns-4 : tie.Need-returns-4
 unfolding wrong
-returns-4 c = simp (sym (c .before .before .before .before .before .before .before .one-byte .ensures), le-ltb 0 _ (c .before .before .before .before .before .before .if1 .left), sym (c .before .before .before .before .before .two-bytes .ensures), le-ltb 0 _ (c .before .before .before .before .if2 .left), sym (c .before .before .before .one-byte2 .ensures), le-ltb 1 _ (c .before .before .if3 .left), sym (c .before .four-bytes .ensures), eq-eqb _ _ (c .if4 .taken))
+returns-4 c = let at = c .before .before .before .before in
+    simp (sym (at .before .before .before .one-byte .ensures), le-ltb 0 _ (at .before .before .if1 .left), sym (at .before .two-bytes .ensures), le-ltb 0 _ (at .if2 .left))
+    (simp (sym (c .before .before .before .one-byte2 .ensures), le-ltb 1 _ (c .before .before .if3 .left), sym (c .before .four-bytes .ensures), eq-eqb _ _ (c .if4 .taken)))
 
 returns-5 : tie.Need-returns-5
 unfolding wrong
-returns-5 c = simp (sym (c .before .before .before .before .before .before .before .one-byte .ensures), le-ltb 0 _ (c .before .before .before .before .before .before .if1 .left), sym (c .before .before .before .before .before .two-bytes .ensures), le-ltb 0 _ (c .before .before .before .before .if2 .left), sym (c .before .before .before .one-byte2 .ensures), le-ltb 1 _ (c .before .before .if3 .left), sym (c .before .four-bytes .ensures), ne-eqb _ _ (c .if4 .left))
+returns-5 c = let at = c .before .before .before .before in
+    simp (sym (at .before .before .before .one-byte .ensures), le-ltb 0 _ (at .before .before .if1 .left), sym (at .before .two-bytes .ensures), le-ltb 0 _ (at .if2 .left))
+    (simp (sym (c .before .before .before .one-byte2 .ensures), le-ltb 1 _ (c .before .before .if3 .left), sym (c .before .four-bytes .ensures), ne-eqb _ _ (c .if4 .left)))
 
 pub is-wrong-spec : {M : Type 1} → statement M
 is-wrong-spec =

@@ -19,7 +19,8 @@ is-wrong-requires c κs = simp (c .bytes-from .ensures, length-drop) (omega arit
 
 returns-2 : tie.Need-returns-2
 unfolding malformed jobOf
-returns-2 c = simp (sym (c .before .before .before .bytes-from .ensures), le-ltb _ _ (c .before .before .before .before .if1 .left), sym (c .before .before .is-wrong .ensures) ∙ c .before .if2 .taken) (c .refused-job2 .ensures)
+returns-2 c = let at = c .before .before in
+    simp (sym (at .before .bytes-from .ensures), le-ltb _ _ (at .before .before .if1 .left), sym (at .is-wrong .ensures) ∙ c .before .if2 .taken) (c .refused-job2 .ensures)
 
 four-bytes-requires : tie.Need-four-bytes-requires
 four-bytes-requires c κs = simp (c .before .before .before .before .bytes-from .ensures, length-drop) (omega arith)
@@ -28,11 +29,15 @@ four-bytes-requires-2 : tie.Need-four-bytes-requires-2
 four-bytes-requires-2 c κs = simp (c .before .before .before .before .before .before .bytes-from .ensures, length-drop) (omega arith)
 
 sub-start : tie.Need-sub-start
-sub-start c = omega (arith, c .four-bytes2 .ensures, is-right _ _ (sym (c .before .before .before .before .before .before .is-wrong .ensures) ∙ c .before .before .before .before .before .if2 .left) .within)
+sub-start c = let at = c .before .before .before .before .before in
+    omega (arith, c .four-bytes2 .ensures, is-right _ _ (sym (at .before .is-wrong .ensures) ∙ at .if2 .left) .within)
 
 returns-3 : tie.Need-returns-3
 unfolding malformed jobOf
-returns-3 c = simp (sym (c .before .before .before .before .before .before .before .bytes-from .ensures), le-ltb _ _ (c .before .before .before .before .before .before .before .before .if1 .left), sym (c .before .before .before .before .before .before .is-wrong .ensures) ∙ c .before .before .before .before .before .if2 .left, sym (c .before .before .before .before .two-bytes .ensures), sym (c .before .before .before .one-byte .ensures), sym (c .before .before .four-bytes .ensures), sym (c .before .two-bytes2 .ensures), sym (c .four-bytes2 .ensures))
+returns-3 c = let at = c .before .before .before .before in
+    let right = sym (at .before .before .is-wrong .ensures) ∙ at .before .if2 .left in
+    simp (sym (at .before .before .before .bytes-from .ensures), le-ltb _ _ (at .before .before .before .before .if1 .left), right, sym (at .two-bytes .ensures))
+    (simp (sym (c .before .before .before .one-byte .ensures), sym (c .before .before .four-bytes .ensures), sym (c .before .two-bytes2 .ensures), sym (c .four-bytes2 .ensures)))
 
 pub read-job-spec : {M : Type 1} → statement M
 read-job-spec =

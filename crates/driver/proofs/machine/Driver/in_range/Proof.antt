@@ -11,20 +11,20 @@ use Rattle.driver.proofs.machine.Driver.in_range.Tie as tie
 
 returns : tie.Need-returns
 unfolding inRange
-returns c = let h = start-found (c .before .before .args .found) (c .before .before .args .self .part) (c .before .before .args .self .command) (c .before .before .args .self .address) (c .before .before .args .self .«data») (c .before .start-refusal .result) (c .before .before .pre) (c .before .before .args .self .p) (c .before .start-refusal .ensures) in
+returns c = let h = start-found _ _ _ _ _ _ (c .before .before .pre) _ (c .before .start-refusal .ensures) in
     simp (sym h, ne-eqb (c .before .start-refusal .result) 0 (λ z. omega arith))
 
 count-fits-requires : tie.Need-count-fits-requires
-count-fits-requires c κs = let h = start-found (c .before .before .before .args .found) (c .before .before .before .args .self .part) (c .before .before .before .args .self .command) (c .before .before .before .args .self .address) (c .before .before .before .args .self .«data») (c .before .before .start-refusal .result) (c .before .before .before .pre) (c .before .before .before .args .self .p) (c .before .before .start-refusal .ensures) in
-    let z : c .before .before .start-refusal .result ≡ 0 = omega arith in
-    begun _ _ _ _ _ (sym h ∙ z) .some
+count-fits-requires c κs = let at = c .before .before in
+    let z : at .start-refusal .result ≡ 0 = omega arith in
+    begun _ _ _ _ _ (sym (start-found _ _ _ _ _ _ (at .before .pre) _ (at .start-refusal .ensures)) ∙ z) .some
 
 returns-2 : tie.Need-returns-2
 unfolding inRange
-returns-2 c = let h = start-found (c .before .before .before .before .args .found) (c .before .before .before .before .args .self .part) (c .before .before .before .before .args .self .command) (c .before .before .before .before .args .self .address) (c .before .before .before .before .args .self .«data») (c .before .before .before .start-refusal .result) (c .before .before .before .before .pre) (c .before .before .before .before .args .self .p) (c .before .before .before .start-refusal .ensures) in
-    let z : c .before .before .before .start-refusal .result ≡ 0 = omega arith in
-    let r = ap (λ (f : Found). f .row) (c .before .before .before .before .pre) in
-    simp (sym h, eq-eqb _ _ z, sym r) (c .count-fits .ensures)
+returns-2 c = let at = c .before .before .before in
+    let h = start-found _ _ _ _ _ _ (at .before .pre) _ (at .start-refusal .ensures) in
+    let z : at .start-refusal .result ≡ 0 = omega arith in
+    simp (sym h, eq-eqb _ _ z, sym (ap (λ (f : Found). f .row) (at .before .pre))) (c .count-fits .ensures)
 
 pub in-range-spec : {M : Type 1} → statement M
 in-range-spec =

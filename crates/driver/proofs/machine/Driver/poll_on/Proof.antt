@@ -20,11 +20,11 @@ poll-requires c κs = let a = c .before .before .before .before .args in
 
 returns-2 : tie.Need-returns-2
 unfolding pollingOf
-returns-2 c = simp (sym (c .before .before .before .before .is-match .ensures) ∙ c .before .before .before .if1 .left, sym (c .before .before .polls-left .ensures) ∙ c .before .if2 .taken) (c .poll .ensures)
+returns-2 c = let at = c .before .before in simp (sym (at .before .before .is-match .ensures) ∙ at .before .if1 .left, sym (at .polls-left .ensures) ∙ c .before .if2 .taken) (c .poll .ensures)
 
 returns-3 : tie.Need-returns-3
 unfolding pollingOf
-returns-3 c = simp (sym (c .before .before .before .before .is-match .ensures) ∙ c .before .before .before .if1 .left, sym (c .before .before .polls-left .ensures) ∙ c .before .if2 .left) (c .end .ensures)
+returns-3 c = let at = c .before .before in simp (sym (at .before .before .is-match .ensures) ∙ at .before .if1 .left, sym (at .polls-left .ensures) ∙ c .before .if2 .left) (c .end .ensures)
 
 pub poll-on-spec : {M : Type 1} → statement M
 poll-on-spec =

@@ -8,7 +8,7 @@ mul-passed : tie.Need-mul-passed
 mul-passed c = record { fits = product-fits (search needs) (search needs) }
 
 returns : tie.Need-returns
-returns c = simp (c .time .ensures) (polls-left (c .before .before .args .row) (c .before .before .args .self .command) (c .before .before .args .self .p) (c .before .before .args .n) (c .before .before .pre))
+returns c = simp (c .time .ensures) (polls-left _ _ _ _ (c .before .before .pre))
 
 pub polls-left-spec : {M : Type 1} → statement M
 polls-left-spec =
