@@ -9,7 +9,7 @@ use Rattle.parts.specs.Pick.{pick}
 use Rattle.job.specs.Bill.{Loaded, loadOf, refusedBill}
 use Rattle.jobfile.specs.JobFile.{malformed}
 use Rattle.billing.specs.File.{billOfFile}
-use Rattle.invoice.proofs.Billed.{invoice, partly, least, table-time}
+use Rattle.invoice.proofs.Billed.{invoice, partly, least, job-rivals, table-time}
 use Rattle.demands.specs.Calls.{ToLoad, toLoad, toLoadFirst, refusedJob, ToRead, toBill, jobAsked, refusedFile}
 use Rattle.demands.specs.Demand3.{Demand3}
 
@@ -39,6 +39,8 @@ demand-3 =
       no-rival-is-quicker = λ c accepted d cs rival. let j = toLoad c in
           rw (c .promise .0, ← table-time (j .part) (j .cells) (j .first) (j .image) (j .wp) (j .p) accepted)
           (least (j .part) (j .cells) (j .first) (j .image) (j .wp) (j .p) accepted d cs rival);
+      job-is-a-rival = λ c accepted. let j = toLoad c in
+          job-rivals (j .part) (j .cells) (j .first) (j .image) (j .wp) (j .p) accepted;
       load-first-plays = λ c accepted. let j = toLoadFirst c .job in
           rw (c .promise .0, c .promise .1) (partly (j .part) (j .cells) (j .first) (j .image) (j .wp) (j .p) accepted (toLoadFirst c .k));
       bill-file-bills = λ c accepted. let j = jobAsked (toBill c) in

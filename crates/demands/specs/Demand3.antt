@@ -9,12 +9,13 @@ use Rattle.parts.specs.Table.{rowOf}
 use Rattle.parts.specs.Time.{timeOf}
 use Rattle.chip.specs.declared.device.Device.{Device}
 use Rattle.chip.specs.declared.cycle.Cycle.{Cycle}
+use Rattle.chip.specs.Device.{freshDevice}
 use Rattle.chip.specs.Cycle.{chip}
 use Rattle.chip.specs.Trace.{startedIn}
 use Rattle.job.specs.declared.bill.Bill.{Bill}
 use Rattle.job.specs.Bill.{Loaded, loadOf}
 use Rattle.invoice.specs.Started.{tableTime}
-use Rattle.invoice.specs.Invoice.{Invoice, Partly, Rival}
+use Rattle.invoice.specs.Invoice.{sentCycles, Invoice, Partly, Rival}
 use Rattle.demands.specs.Calls.{LoadCall, toLoad, loadLeft, LoadFirstCall, toLoadFirst, loadFirstLeft, refusedJob, BillFileCall, toBill, jobAsked, refusedFile}
 
 -- what a job leaves on the cells, beside a bill
@@ -34,6 +35,10 @@ pub record Demand3 : Type 0 where
       → (d : Device) (cs : List Cycle) → Rival (j .part) (j .cells) (j .first) (j .image) d cs
       → c .back .erases * timeOf (rowOf (j .part)) SECTOR + c .back .programs * timeOf (rowOf (j .part)) PROGRAM
       ≤ tableTime (rowOf (j .part)) (startedIn (j .part) (chip (j .cells) d) cs)
+  -- There is such a rival: the job's own cycles, from a fresh device.
+  pub job-is-a-rival : (c : LoadCall) → let j = toLoad c in refusedJob j ≡ 0
+      → Rival (j .part) (j .cells) (j .first) (j .image) freshDevice
+      (sentCycles (j .part) (j .cells) (j .first) (j .image) (j .wp) (j .p))
   -- The second call leaves the cells as the first k of the job's bus cycles leave them, all if fewer; and its polls, reads
   -- and time are those of these cycles.
   pub load-first-plays : (c : LoadFirstCall) → let j = toLoadFirst c .job in refusedJob j ≡ 0

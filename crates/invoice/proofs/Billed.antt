@@ -28,8 +28,10 @@ use Rattle.job.specs.Bill.{jobFrom, fullOf, played, playedAll, loadOf, reportOf
 use Rattle.job.specs.Formulas.{tallyOf}
 use Rattle.job.proofs.Accepts.{Passed, passed}
 use Rattle.job.proofs.Counts.{play-tally, play-sent, job-fair, time-most}
-use Rattle.invoice.specs.Started.{cyclesIn, timeIn, tableTime}
+use Rattle.invoice.specs.Started.{cyclesIn, timeIn, many, tableTime}
 use Rattle.invoice.specs.Invoice.{started, placesSent, Invoice, Partly, Rival}
+use Rattle.chip.proofs.Started.{started-all}
+use Rattle.invoice.proofs.ByKind.{all-kinds}
 use Rattle.invoice.proofs.Placed.{placedAs, contents, map-take, places-take}
 use Rattle.invoice.proofs.Starts.{world-plays}
 use Rattle.invoice.proofs.Image.{job-started}
@@ -61,12 +63,20 @@ module _ (part : ℕ) (cells : List ℕ) (first : ℕ) (image : List ℕ) (wp : 
       let c = contents (sentOf j image cells) in
       let e = places in
       let q = cells-left j image (ok .right) cells (ok .whole) in
+      let os = started part cells first image wp p in
+      let w = playedAll part cells first image wp p .held .tally in
+      let erased : w .erases ≡ many 1 os = rw (t, s .begun) (s .erases) in
+      let programmed : w .programs ≡ many 0 os = rw (t, s .begun) (s .programs) in
+      let no-block : many 2 os ≡ 0 = rw (s .begun) (s .blocks) in
+      let no-chip : many 3 os ≡ 0 = rw (s .begun) (s .chips) in
       rw (eq-eqb (jobRefusal part (length cells) first image wp p) 0 accepted)
       (record {
         holds = rw q (image-left j image (ok .right) cells (ok .whole));
         below = λ i l. rw q (others-left j image (ok .right) cells (ok .whole) i (inl l));
         above = λ i l. rw q (others-left j image (ok .right) cells (ok .whole) i (inr l));
         rests = h .ready .rest;
+        played = ap (λ (h : Chip). h .cells) (world-plays part (world cells noneSent) (sentOf j image cells));
+        only = omega (arith, all-kinds (rowOf part) os (started-all part (cyclesIn (sentOf j image cells)) (chip cells freshDevice)), erased, programmed, no-block, no-chip);
         answer = refl;
         polls = rw t (f .polls);
         spent = rw t (omega (arith, f .spent));
@@ -74,10 +84,10 @@ module _ (part : ℕ) (cells : List ℕ) (first : ℕ) (image : List ℕ) (wp : 
         scans = rw t (f .scans);
         saved = rw t (omega (arith, time-most j image (ok .right) cells (ok .whole)));
         sum = refl;
-        erases = rw (t, s .begun) (s .erases);
-        programs = rw (t, s .begun) (s .programs);
-        blocks = rw (s .begun) (s .blocks);
-        chips = rw (s .begun) (s .chips);
+        erases = erased;
+        programs = programmed;
+        blocks = no-block;
+        chips = no-chip;
         polled = rw (t, e) (c .polls);
         scanned = rw (t, e) (c .scans);
         confirmed = rw (t, e) (c .confirms);

@@ -6,3 +6,4 @@ pub mod Image
 pub mod Least
 pub mod Billed
 pub mod Loads
+pub mod ByKind

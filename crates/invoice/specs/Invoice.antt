@@ -39,9 +39,12 @@ pub record Invoice (part : ℕ) (cells : List ℕ) (first : ℕ) (image : List �
   pub below : (i : ℕ) → i < first → getD (l .cells) i 0 ≡ getD cells i 0
   pub above : (i : ℕ) → first + length image ≤ i → getD (l .cells) i 0 ≡ getD cells i 0
   pub rests : playedAll part cells first image wp p .held .device ≡ freshDevice
+  -- the cells are what the cycles sent leave, played from a fresh device on
+  pub played : l .cells ≡ play part (chip cells freshDevice) (sentCycles part cells first image wp p) .cells
   -- the erases and programs are the operations that the cycles sent start on the chip; they start no other
   pub erases : l .bill .erases ≡ many SECTOR (started part cells first image wp p)
   pub programs : l .bill .programs ≡ many PROGRAM (started part cells first image wp p)
+  pub only : length (started part cells first image wp p) ≡ l .bill .erases + l .bill .programs
   pub blocks : many BLOCK (started part cells first image wp p) ≡ 0
   pub chips : many CHIP (started part cells first image wp p) ≡ 0
   -- the polls, the scans and the confirming reads are those of the cycles sent, told by their places; and the time is theirs

@@ -1,0 +1,39 @@
+-- The operations that a list of cycles starts are of the four kinds: counted by kind they are all counted.
+use Prim.Native.Nat.{ℕ, zero, suc, _+_, _≤_}
+use mathlib.Core.Path.{_≡_, refl}
+use mathlib.Core.Bool.{true}
+use mathlib.Core.List.{List, [], _∷_}
+use native.Mathlib.Omega.{arith}
+use borrow.Author.Tests.{ltb-false}
+use lib.Dec.{eqb}
+use lib.ListN.{length}
+use Rattle.parts.specs.Pick.{pick}
+use Rattle.parts.specs.Time.{hasCommand}
+use Rattle.parts.specs.declared.table.Row.{Row}
+use Rattle.parts.proofs.Every.{unless}
+use Rattle.chip.specs.declared.device.Operation.{Operation}
+use Rattle.chip.proofs.Started.{Startable, All}
+use Rattle.invoice.specs.Started.{many}
+
+-- one kind is counted once
+abbrev of : ℕ → ℕ → ℕ
+of k n = pick (eqb n k) 1 0
+
+once : (n : ℕ) → n ≤ 3 → of 0 n + (of 1 n + (of 2 n + of 3 n)) ≡ 1
+once zero h = refl
+once (suc zero) h = refl
+once (suc (suc zero)) h = refl
+once (suc (suc (suc zero))) h = refl
+once (suc (suc (suc (suc n)))) h = absurd (omega arith)
+
+few : (r : Row) (n : ℕ) → hasCommand r n ≡ true → n ≤ 3
+unfolding hasCommand
+few r n h = ltb-false 3 n (unless _ _ h .0)
+
+pub all-kinds : (r : Row) (os : List Operation) → All (Startable r) os → length os ≡ many 0 os + (many 1 os + (many 2 os + many 3 os))
+all-kinds r [] a = refl
+all-kinds r (o ∷ os) a =
+    let e = all-kinds r os (a .1) in
+    let one = once (o .kind) (few r (o .kind) (a .0 .command)) in
+    let l : length (o ∷ os) ≡ 1 + length os = omega arith in
+    omega (arith, e, one, l)
