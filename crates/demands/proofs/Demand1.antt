@@ -34,7 +34,8 @@ use Rattle.job.specs.Bill.{Loaded, Reported, refusedBill, loadOf, reportOf}
 use Rattle.jobfile.specs.declared.trailer.JobFile.{JobFile}
 use Rattle.jobfile.specs.JobFile.{malformed, trailerOf, refused, asked, jobOf}
 use Rattle.billing.specs.File.{billOfJob, billOfFile}
-use Rattle.demands.specs.Calls.{BusCall, onBus, refusedCycle, StepCall, toStep, refusedStart, toStart, refusedWrites, toWrite, kthAsked, refusedJob, toLoad, toLoadFirst, rowAsked, figureAsked, toRead, ToRead, toBill, jobAsked, refusedFile}
+use Rattle.demands.specs.Calls.{onBus, refusedCycle, StepCall, toStep, refusedStart, toStart, refusedWrites, toWrite, kthAsked, refusedJob, toLoad, toLoadFirst}
+use Rattle.demands.specs.Calls.{rowAsked, figureAsked, toRead, ToRead, toBill, jobAsked, refusedFile}
 use Rattle.demands.specs.Demand1.{Refuses, RefusesState, Demand1}
 
 -- one test decides: what is handed back where it passes answers 0

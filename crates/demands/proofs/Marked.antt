@@ -121,7 +121,9 @@ on-every [] c = refl
 on-every (k ∷ ks) c = let b = both (computes k) (every computes ks) c in rw (on-marked k (b .0)) (on-every ks (b .1))
 
 computed : every computes cases ≡ true
-unfolding computes holdsOn ranOn cycleOn reckon reckonAll accepts acceptsAll rowOf partRefusal fitsIn sectorSize holdsb hasBlocks sectorOf blockOf protectedOf hasCommand timeOf validOperation coreInRange stageInRange deviceInRange cellsOf completeOn cutOn effectOf ignored writtenOf actionRefusal cycleRefusal settledOf readOf cutOf acceptedOf lastWrite isInterval roundedUp fitAll meets protectionRefusal rangeRefusal jobRefusal totalOf confirmAfter fullOf filling looking deciding decidingAll
+unfolding computes holdsOn ranOn cycleOn reckon reckonAll accepts acceptsAll rowOf partRefusal fitsIn sectorSize holdsb hasBlocks sectorOf blockOf protectedOf hasCommand timeOf validOperation
+    coreInRange stageInRange deviceInRange cellsOf completeOn cutOn effectOf ignored writtenOf actionRefusal cycleRefusal settledOf readOf cutOf acceptedOf lastWrite
+    isInterval roundedUp fitAll meets protectionRefusal rangeRefusal jobRefusal totalOf confirmAfter fullOf filling looking deciding decidingAll
 computed = refl
 
 -- Every marked case of the list holds of the definitions that the promises of bus_cycle and load cite.

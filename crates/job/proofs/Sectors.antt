@@ -30,7 +30,6 @@ use Rattle.job.specs.declared.loader.Stage.the-variants.{Scanning, Looki
 use Rattle.job.specs.declared.loader.Task.{Task}
 use Rattle.job.specs.declared.loader.Task.the-variants.{Erasing, Filling, Burning}
 use Rattle.job.specs.declared.loader.Purpose.the-variants.{Scan}
-use Rattle.job.specs.declared.loader.Turn.the-variants.{Play}
 use Rattle.job.specs.declared.search.Decision.{Decision}
 use Rattle.job.specs.declared.search.Decision.the-variants.{NoErase, SectorErase}
 use Rattle.job.specs.Search.{leadingOf}
@@ -114,8 +113,7 @@ module _ (j : Job) (image : List ℕ) (R : AcceptedJob j image) where
         → Rest j image (turned seen (readsCell j s base i)) w (scanRead j (a + i) ∷ L)
     cell-step s i seen w L h g k =
         let q : placeOf j base i ≡ a + i = omega arith in
-        rest-is j image (turned seen (readsCell j s base i)) _ w _ _ (ap (λ (n : ℕ). turned seen (Play (loader s base i) Scan (reading n))) q) refl
-        (rest-more j image seen (loader s base i) Scan (reading (a + i)) w L (k (sendOf (j .part) w Scan (reading (a + i))) (reads-on w (a + i) g (there i h))))
+        rw q (rest-more j image seen (loader s base i) Scan (reading (a + i)) w L (k (sendOf (j .part) w Scan (reading (a + i))) (reads-on w (a + i) g (there i h))))
 
     -- the scan, then the decision
     abbrev Decides : List ℕ → List Sent → Type 0
@@ -157,7 +155,7 @@ module _ (j : Job) (image : List ℕ) (R : AcceptedJob j image) where
         let heeded = R .heeded 0 at (omega arith) (omega arith) (omega (arith, inside)) in
         let shown = program-shows (j .part) 0 at (imageAt i) (j .p) (j .wp) (w .cells) (w .held .device) accepted (g .whole) (rw (g .rest) fresh-idle) heeded refl in
         let same : bitAnd (valueOf (r .width) (getD (w .cells) at 0)) (imageAt i) ≡ imageAt i = rw (R .row, q) at clears in
-        rest-is j image _ _ w _ (operated j 0 at (imageAt i) ++ L) refl (ap (λ (n : ℕ). operated j 0 n (imageAt i) ++ L) q)
+        rw q
         (operates j image (R .row) task base i inside h seen 0 (imageAt i) (omega arith) accepted heeded w (g .rest) (g .whole) (shown ∙ same) L
         (λ w′ ec ed. let e = ec ∙ program-leaves r at (imageAt i) (w .cells) t′ in
         k w′ (record { rest = ed; whole = ap length e ∙ (length-set (w .cells) at (bitAnd (getD (w .cells) at 0) (imageAt i)) ∙ g .whole) })
@@ -235,9 +233,7 @@ module _ (j : Job) (image : List ℕ) (R : AcceptedJob j image) where
         listed = let z : a + i + 1 ≡ a + (i + 1) = omega arith in rw (image-more m i e, z)
 
         by : (t : Bool) → eqb (imageAt i) (blankOf (j .row .width)) ≡ t → Rest j image (turned seen (fillOf j image base i)) w (fills j (a + i) (take (suc m) (drop (base + i) image)) ++ L)
-        by true t =
-            rw (fill-blank m i e (eqb-true _ _ t), listed, t)
-            (ih seen w D L (omega arith) n g (λ q le lt. b q (omega arith) lt) d h)
+        by true t = rw (fill-blank m i e (eqb-true _ _ t), listed, t) (ih seen w D L (omega arith) n g (λ q le lt. b q (omega arith) lt) d h)
         by false t =
             rw (fill-here m i e (eqb-false _ _ t), listed, t, append-assoc (operated j 0 (a + i) (imageAt i)) rest L)
             (programs Filling i seen w (rest ++ L) k g (rw (b i (le-refl i) k) (blank-clears i k))
@@ -247,8 +243,7 @@ module _ (j : Job) (image : List ℕ) (R : AcceptedJob j image) where
 
     filling : (m i : ℕ) → Fills m i
     unfolding fills
-    filling zero i = λ seen w D L e n g b d h.
-        rest-is j image _ (turned seen (nextSector j (base + j .size))) w _ L (ap (turned seen) (fill-end i (omega arith))) refl (h seen w n g d)
+    filling zero i = λ seen w D L e n g b d h. rw (fill-end i (omega arith)) (h seen w n g d)
     filling (suc m) i = fill-more m i (filling m (i + 1))
 
     -- ---- an unerased sector
@@ -311,8 +306,7 @@ module _ (j : Job) (image : List ℕ) (R : AcceptedJob j image) where
 
     looking : (m i : ℕ) → Looks m i
     unfolding looks lookOf
-    looking zero i = λ seen w D L e n g b d h.
-        rw (le-ltb i (j .size) (omega arith)) (h seen w n g d)
+    looking zero i = λ seen w D L e n g b d h. rw (le-ltb i (j .size) (omega arith)) (h seen w n g d)
     looking (suc m) i = look-more m i (looking m (i + 1))
 
     -- ---- the decision
@@ -393,8 +387,7 @@ module _ (j : Job) (image : List ℕ) (R : AcceptedJob j image) where
     pub sectors : (n base : ℕ) (seen : List ℕ) (w : World) → base + n * j .size ≡ j .count → base % j .size ≡ 0 → length seen ≡ 4096 → Ready w
         → Rest j image (turned seen (nextSector j base)) w (sectorsSent j (j .first + base) n (drop (j .first + base) (w .cells)) (drop base image))
     unfolding nextSector sectorsSent
-    sectors zero base seen w e m l g =
-        rw (le-ltb base (j .count) (omega (arith, zero-mul (j .size)))) (rest-none j image seen w)
+    sectors zero base seen w e m l g = rw (le-ltb base (j .count) (omega (arith, zero-mul (j .size)))) (rest-none j image seen w)
     sectors (suc n) base seen w e m l g =
         let i : base + j .size ≤ j .count = omega (arith, suc-mul n (j .size)) in
         let x : base + j .size + n * j .size ≡ j .count = omega (arith, suc-mul n (j .size)) in
