@@ -35,7 +35,9 @@ returns-7 c = simp (c .before .match .keys7) (c .last-write .ensures)
 
 returns-8 : tie.Need-returns-8
 unfolding effectOf
-returns-8 c = simp (ne-eqb _ _ (c .match .rest .1), ne-eqb _ _ (c .match .rest .0 .1), ne-eqb _ _ (c .match .rest .0 .0 .1), ne-eqb _ _ (c .match .rest .0 .0 .0 .1), ne-eqb _ _ (c .match .rest .0 .0 .0 .0 .1), ne-eqb _ _ (c .match .rest .0 .0 .0 .0 .0 .1), ne-eqb _ _ (c .match .rest .0 .0 .0 .0 .0 .0 .1))
+returns-8 c = let r = c .match .rest in
+    let s = r .0 .0 .0 in
+    simp (ne-eqb _ _ (r .1), ne-eqb _ _ (r .0 .1), ne-eqb _ _ (r .0 .0 .1), ne-eqb _ _ (s .1), ne-eqb _ _ (s .0 .1), ne-eqb _ _ (s .0 .0 .1), ne-eqb _ _ (s .0 .0 .0 .1))
 
 pub effect-of-spec : {M : Type 1} → statement M
 effect-of-spec =
