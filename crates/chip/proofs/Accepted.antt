@@ -118,7 +118,8 @@ unfolding cellsOf hasCommand
 inside-cells n k o c t =
     split Inside (eqb (o .kind) 0) _ _ (λ _. omega arith)
     (λ _. split Inside (eqb (o .kind) 1) _ _ (λ _. sector-fits n k (o .address) t)
-    (λ _. split Inside (eqb (o .kind) 2) _ _ (λ e. block-fits n k (o .address) t (given (eqb (o .kind) 2) (hasBlocks (rowOf n)) e (unless (ltb 3 (o .kind)) (pick (eqb (o .kind) 2) (hasBlocks (rowOf n)) true) c .1))) (λ _. omega arith)))
+    (λ _. split Inside (eqb (o .kind) 2) _ _ (λ e. block-fits n k (o .address) t
+    (given (eqb (o .kind) 2) (hasBlocks (rowOf n)) e (unless (ltb 3 (o .kind)) (pick (eqb (o .kind) 2) (hasBlocks (rowOf n)) true) c .1))) (λ _. omega arith)))
   where
     Inside : Span → Type 0
     Inside s = s .first + s .count ≤ rowOf n .cells

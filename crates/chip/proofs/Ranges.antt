@@ -96,7 +96,8 @@ acted-length r h wp (Cut s) w =
 pub after-length : (part : ℕ) (h : Chip) (c : Cycle) → length (after part h c .cells) ≡ length (h .cells)
 unfolding after cycleOf acceptedOf
 after-length part h c =
-    split (λ (o : Outcome). length (o .cells) ≡ length (h .cells)) (eqb (cycleRefusal part (length (h .cells)) (h .device) (c .action)) 0) _ _ (λ e. kept (accepted part _ _ _ (eqb-true _ _ e))) (λ _. refl)
+    split (λ (o : Outcome). length (o .cells) ≡ length (h .cells)) (eqb (cycleRefusal part (length (h .cells)) (h .device) (c .action)) 0) _ _
+    (λ e. kept (accepted part _ _ _ (eqb-true _ _ e))) (λ _. refl)
   where
     r : Row
     r = rowOf part
@@ -107,7 +108,8 @@ after-length part h c =
     kept : Accepted part (length (h .cells)) (h .device) (c .action) → length (actedOf r s (c .wp) (c .action) .cells) ≡ length (h .cells)
     kept w =
         let e = settled-length r (h .cells) (h .device .core) (c .elapsed) (runs-inside part (w .known) (h .device .core) (length (h .cells)) (ranges r (h .device) (w .state) .1) (w .whole)) in
-        acted-length r s (c .wp) (c .action) (runs-inside part (w .known) (s .device .core) (length (s .cells)) (ranges r (s .device) (after-time-range r h (c .elapsed) (w .state)) .1) (e ∙ w .whole)) ∙ e
+        let within = ranges r (s .device) (after-time-range r h (c .elapsed) (w .state)) .1 in
+        acted-length r s (c .wp) (c .action) (runs-inside part (w .known) (s .device .core) (length (s .cells)) within (e ∙ w .whole)) ∙ e
 
 pub play-length : (part : ℕ) (cs : List Cycle) (h : Chip) → length (play part h cs .cells) ≡ length (h .cells)
 play-length part [] h = refl

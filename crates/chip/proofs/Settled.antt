@@ -48,7 +48,8 @@ after-time-range r h e i =
     let none : h .device .stage ≡ 0 = stage-busy k (h .device .stage) (w .0) b in
     rw none
     (split Begun (ltb e (k .running .left)) _ _
-    (λ l. in-range r (runs-on e) 0 (stage-none (runs-on e)) (valid-range r (runs-on e) (record { command = v .command; time = omega (arith, v .time); there = v .there; fits = v .fits; mode = v .mode })))
+    (λ l. in-range r (runs-on e) 0 (stage-none (runs-on e))
+    (valid-range r (runs-on e) (record { command = v .command; time = omega (arith, v .time); there = v .there; fits = v .fits; mode = v .mode })))
     (λ _. in-range r (atRest k) 0 (stage-none (atRest k)) (rest-range r (atRest k) refl))))
     (λ _. i)
   where

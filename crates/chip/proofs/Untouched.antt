@@ -109,7 +109,8 @@ time-stores r cells k e fits =
     Stores : Settled → Type 0
     Stores s = KeptOrFits (r .width) cells (s .cells)
 
-acts-store : (r : Row) (h : Chip) (wp : Bool) (a : Action) → (busy (h .device .core) ≡ true → fitsIn (r .width) (h .device .core .running .«data») ≡ true) → KeptOrFits (r .width) (h .cells) (actedOf r h wp a .cells)
+acts-store : (r : Row) (h : Chip) (wp : Bool) (a : Action) → (busy (h .device .core) ≡ true → fitsIn (r .width) (h .device .core .running .«data») ≡ true)
+    → KeptOrFits (r .width) (h .cells) (actedOf r h wp a .cells)
 unfolding cutOf cutOn
 acts-store r h wp (Read a) fits = kept (r .width) (h .cells)
 acts-store r h wp (Write a x) fits = kept (r .width) (h .cells)
@@ -137,7 +138,8 @@ stores-values part h c =
 
     stores : Accepted part (length (h .cells)) (h .device) (c .action) → KeptOrFits w (h .cells) (actedOf r s (c .wp) (c .action) .cells)
     stores t =
-        then w (h .cells) (s .cells) (actedOf r s (c .wp) (c .action) .cells) (time-stores r (h .cells) (h .device .core) (c .elapsed) (λ b. busy-valid r (h .device .core) (ranges r (h .device) (t .state) .1) b .fits))
+        then w (h .cells) (s .cells) (actedOf r s (c .wp) (c .action) .cells)
+        (time-stores r (h .cells) (h .device .core) (c .elapsed) (λ b. busy-valid r (h .device .core) (ranges r (h .device) (t .state) .1) b .fits))
         (acts-store r s (c .wp) (c .action) (λ b. busy-valid r (s .device .core) (ranges r (s .device) (after-time-range r h (c .elapsed) (t .state)) .1) b .fits))
 
 -- ---- what WP# low protects

@@ -8,7 +8,9 @@ use Rattle.chip.proofs.cycle.act.Statement.{statement}
 use Rattle.chip.proofs.cycle.act.Tie as tie
 
 read-cycle-requires : tie.Need-read-cycle-requires
-read-cycle-requires c κs = (c .before .before .before .before .before .pre .0, omega (arith, read-there (c .before .before .before .before .before .args .row) (c .before .before .action .given .0 .0) (ap (actionRefusal (c .before .before .before .before .before .args .row)) (sym (c .before .before .action .given .1)) ∙ c .before .before .before .before .before .pre .1 .1 .1), c .before .before .before .before .before .pre .1 .1 .0))
+read-cycle-requires c κs = let at = c .before .before .before .before .before in
+    let there = read-there _ _ (ap (actionRefusal (at .args .row)) (sym (c .before .before .action .given .1)) ∙ at .pre .1 .1 .1) in
+    (at .pre .0, omega (arith, there, at .pre .1 .1 .0))
 
 returns : tie.Need-returns
 returns c = simp (c .before .before .before .action .given .1) (c .read-cycle .ensures, refl)
@@ -23,4 +25,7 @@ returns-4 : tie.Need-returns-4
 returns-4 c = simp (c .before .before .before .before .before .before .action3 .given .1, c .fresh .ensures) (refl, c .before .before .before .cut .ensures)
 
 pub act-spec : {M : Type 1} → statement M
-act-spec = tie.close (tie.spec (λ c. search needs) read-cycle-requires (λ c. search needs) (λ c κs. search needs) (λ c. search needs) (λ c. search needs) (λ c κs. search needs) (λ c κs. search needs) (λ c. search needs) returns returns-2 returns-3 (λ c. search needs) returns-4)
+act-spec =
+    tie.close
+    (tie.spec (λ c. search needs) read-cycle-requires (λ c. search needs) (λ c κs. search needs) (λ c. search needs) (λ c. search needs) (λ c κs. search needs)
+    (λ c κs. search needs) (λ c. search needs) returns returns-2 returns-3 (λ c. search needs) returns-4)

@@ -15,7 +15,8 @@ returns-3 : tie.Need-returns-3
 returns-3 c = simp (le-ltb _ _ (c .before .before .before .before .before .if1 .left), eq-eqb _ _ (c .before .before .if2 .left), sym (c .before .in-range .ensures) ∙ not-true _ (c .if3 .taken))
 
 returns-4 : tie.Need-returns-4
-returns-4 c = simp (le-ltb _ _ (c .before .before .before .before .before .before .if1 .left), eq-eqb _ _ (c .before .before .before .if2 .left), sym (c .before .before .in-range .ensures) ∙ not-false _ (c .before .if3 .left)) (c .action-refusal .ensures)
+returns-4 c = let at = c .before .before .before in
+    simp (le-ltb _ _ (at .before .before .before .if1 .left), eq-eqb _ _ (at .if2 .left), sym (c .before .before .in-range .ensures) ∙ not-false _ (c .before .if3 .left)) (c .action-refusal .ensures)
 
 pub cycle-refusal-spec : {M : Type 1} → statement M
 cycle-refusal-spec = tie.close (tie.spec returns (λ c. search needs) returns-2 (λ c κs. search needs) returns-3 (λ c κs. search needs) returns-4)

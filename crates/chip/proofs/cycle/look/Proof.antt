@@ -7,7 +7,8 @@ use Rattle.chip.proofs.cycle.look.Tie as tie
 
 returns : tie.Need-returns
 unfolding readOf
-returns c = simp (sym (c .before .before .before .before .before .is-busy .ensures) ∙ c .before .before .before .before .if1 .taken, c .before .before .busy-status .ensures, c .with-running .ensures, c .before .toggled .ensures)
+returns c = let at = c .before .before in
+    simp (sym (at .before .before .before .is-busy .ensures) ∙ at .before .before .if1 .taken, at .busy-status .ensures, c .with-running .ensures, c .before .toggled .ensures)
 
 returns-2 : tie.Need-returns-2
 unfolding readOf

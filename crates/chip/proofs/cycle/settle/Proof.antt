@@ -20,7 +20,7 @@ complete-requires c κs = (c .before .before .before .before .before .pre .1 .in
 
 returns-3 : tie.Need-returns-3
 unfolding settledOf
-returns-3 c = simp (lt-ltb 0 _ (c .before .before .before .before .before .before .if1 .left), le-ltb _ _ (c .before .before .before .before .before .if2 .left)) (c .at-rest .ensures, c .before .before .before .complete .ensures)
+returns-3 c = let at = c .before .before .before in simp (lt-ltb 0 _ (at .before .before .before .if1 .left), le-ltb _ _ (at .before .before .if2 .left)) (c .at-rest .ensures, at .complete .ensures)
 
 pub settle-spec : {M : Type 1} → statement M
 settle-spec = tie.close (tie.spec returns (λ c. search needs) (λ c κs. search needs) (λ c κs. search needs) returns-2 complete-requires (λ c κs. search needs) (λ c. search needs) returns-3)

@@ -16,25 +16,15 @@ abbrev μ-loop : tie.MeasureT-loop
 μ-loop cells₀ width scar at₀ cells at = length cells₀ - at
 
 loop-again : tie.Need-loop-again Inv-loop μ-loop
-loop-again c = (search needs, (search needs, rw (c .value .ensures) (reached-step (λ x. bitOr (valueOf (c .before .before .before .before .before .args .width) x) (c .before .before .before .before .before .args .scar)) _ (c .before .before .before .before .before .args .cells .now) (c .before .before .before .loop .at) (c .before .before .before .loop .inv .1 .1) (search needs))))
+loop-again c = let at = c .before .before .before in
+    let g = at .before .before .args in
+    (search needs, (search needs, rw (c .value .ensures) (reached-step (λ x. bitOr (valueOf (g .width) x) (g .scar)) _ (g .cells .now) (at .loop .at) (at .loop .inv .1 .1) (search needs))))
 
 returns : tie.Need-returns Inv-loop μ-loop
-returns c = c .before .loop .inv .1 .1 ∙ reached-all (λ x. bitOr (valueOf (c .before .before .before .args .width) x) (c .before .before .before .args .scar)) (c .before .before .before .args .cells .now) (c .before .loop .at) (search needs)
+returns c = let g = c .before .before .before .args in c .before .loop .inv .1 .1 ∙ reached-all (λ x. bitOr (valueOf (g .width) x) (g .scar)) (g .cells .now) (c .before .loop .at) (search needs)
 
 pub scar-each-spec : {M : Type 1} → statement M
 scar-each-spec =
     tie.close
-    (tie.spec
-    Inv-loop
-    μ-loop
-    (λ c. search needs)
-    (λ c. search needs)
-    (λ c. search needs)
-    (λ c κs. search needs)
-    (λ c. search needs)
-    (λ c. search needs)
-    (λ c. search needs)
-    (λ c. search needs)
-    loop-again
-    (λ c. search needs)
-    returns)
+    (tie.spec Inv-loop μ-loop (λ c. search needs) (λ c. search needs) (λ c. search needs) (λ c κs. search needs) (λ c. search needs)
+    (λ c. search needs) (λ c. search needs) (λ c. search needs) loop-again (λ c. search needs) returns)

@@ -35,18 +35,5 @@ returns-6 c = let at = c .before .before in
 pub nth-write-spec : {M : Type 1} → statement M
 nth-write-spec =
     tie.close
-    (tie.spec
-    add-if1
-    (λ c κs. search needs)
-    (λ c κs. search needs)
-    returns
-    (λ c κs. search needs)
-    (λ c κs. search needs)
-    (λ c κs. search needs)
-    (λ c κs. search needs)
-    (λ c κs. search needs)
-    returns-2
-    returns-3
-    returns-4
-    returns-5
-    returns-6)
+    (tie.spec add-if1 (λ c κs. search needs) (λ c κs. search needs) returns (λ c κs. search needs) (λ c κs. search needs) (λ c κs. search needs)
+    (λ c κs. search needs) (λ c κs. search needs) returns-2 returns-3 returns-4 returns-5 returns-6)

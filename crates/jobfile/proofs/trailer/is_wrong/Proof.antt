@@ -35,14 +35,5 @@ returns-5 c = let at = c .before .before .before .before in
 pub is-wrong-spec : {M : Type 1} → statement M
 is-wrong-spec =
     tie.close
-    (tie.spec
-    (λ c κs. search needs)
-    returns
-    (λ c κs. search needs)
-    returns-2
-    (λ c κs. search needs)
-    returns-3
-    (λ c κs. search needs)
-    (λ c. search needs)
-    returns-4
-    returns-5)
+    (tie.spec (λ c κs. search needs) returns (λ c κs. search needs) returns-2 (λ c κs. search needs) returns-3 (λ c κs. search needs)
+    (λ c. search needs) returns-4 returns-5)

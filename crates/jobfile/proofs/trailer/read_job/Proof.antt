@@ -42,21 +42,6 @@ returns-3 c = let at = c .before .before .before .before in
 pub read-job-spec : {M : Type 1} → statement M
 read-job-spec =
     tie.close
-    (tie.spec
-    (λ c κs. search needs)
-    returns
-    (λ c. search needs)
-    (λ c κs. search needs)
-    is-wrong-requires
-    (λ c κs. search needs)
-    returns-2
-    (λ c κs. search needs)
-    (λ c. search needs)
-    (λ c κs. search needs)
-    four-bytes-requires
-    (λ c κs. search needs)
-    (λ c. search needs)
-    four-bytes-requires-2
-    (λ c. search needs)
-    sub-start
-    returns-3)
+    (tie.spec (λ c κs. search needs) returns (λ c. search needs) (λ c κs. search needs) is-wrong-requires (λ c κs. search needs) returns-2
+    (λ c κs. search needs) (λ c. search needs) (λ c κs. search needs) four-bytes-requires (λ c κs. search needs) (λ c. search needs)
+    four-bytes-requires-2 (λ c. search needs) sub-start returns-3)

@@ -16,7 +16,8 @@ returns c = let e = ap (λ (f : Found). f .answer) (c .before .before .part-row 
 
 returns-2 : tie.Need-returns-2
 unfolding figureOf
-returns-2 c = let e = ap (λ (f : Found). f .answer) (c .before .before .before .part-row .ensures) in simp (sym e, le-ltb _ _ (c .before .before .if1 .left), lt-ltb _ _ (c .before .if2 .taken), c .refused2 .ensures)
+returns-2 c = let e = ap (λ (f : Found). f .answer) (c .before .before .before .part-row .ensures) in
+    simp (sym e, le-ltb _ _ (c .before .before .if1 .left), lt-ltb _ _ (c .before .if2 .taken), c .refused2 .ensures)
 
 returns-3 : tie.Need-returns-3
 unfolding figureOf

@@ -12,7 +12,8 @@ returns c = simp (sym (c .before .is-busy .ensures) ∙ not-true _ (c .if1 .take
 
 returns-2 : tie.Need-returns-2
 unfolding coreInRange
-returns-2 c = simp (sym (c .before .before .before .before .before .is-busy .ensures) ∙ not-false _ (c .before .before .before .before .if1 .left), sym (c .before .before .before .reads-cells .ensures) ∙ c .before .before .if2 .taken) (c .is-valid .ensures)
+returns-2 c = let at = c .before .before .before in
+    simp (sym (at .before .before .is-busy .ensures) ∙ not-false _ (at .before .if1 .left), sym (at .reads-cells .ensures) ∙ c .before .before .if2 .taken) (c .is-valid .ensures)
 
 returns-3 : tie.Need-returns-3
 unfolding coreInRange

@@ -17,11 +17,12 @@ returns-2 c = simp (sym (c .before .before .before .before .has-command .ensures
 
 returns-3 : tie.Need-returns-3
 unfolding validOperation
-returns-3 c = simp (sym (c .before .before .before .before .before .before .before .before .has-command .ensures) ∙ not-false _ (c .before .before .before .before .before .before .before .if1 .left), sym (c .before .before .before .before .before .before .time .ensures), c .fits2 .ensures) (search tests)
+returns-3 c = let at = c .before .before .before .before .before .before in
+    simp (sym (at .before .before .has-command .ensures) ∙ not-false _ (at .before .if1 .left), sym (at .time .ensures), c .fits2 .ensures) (search tests)
 
 returns-4 : tie.Need-returns-4
 unfolding validOperation
-returns-4 c = simp (sym (c .before .before .before .before .before .before .before .has-command .ensures) ∙ not-false _ (c .before .before .before .before .before .before .if1 .left), sym (c .before .before .before .before .before .time .ensures)) (search tests)
+returns-4 c = let at = c .before .before .before .before .before in simp (sym (at .before .before .has-command .ensures) ∙ not-false _ (at .before .if1 .left), sym (at .time .ensures)) (search tests)
 
 pub is-valid-spec : {M : Type 1} → statement M
 is-valid-spec = tie.close (tie.spec (λ c κs. search needs) returns (λ c κs. search needs) returns-2 (λ c κs. search needs) returns-3 returns-4)

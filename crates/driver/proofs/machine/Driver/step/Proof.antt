@@ -62,25 +62,6 @@ returns-7 c = let at = c .before .before .before .before in simp (sym (at .befor
 pub step-spec : {M : Type 1} → statement M
 step-spec =
     tie.close
-    (tie.spec
-    (λ c κs. search needs)
-    in-range-requires
-    returns
-    (λ c. search needs)
-    write-on-requires
-    (λ c. search needs)
-    poll-on-requires
-    (λ c. search needs)
-    compare-requires
-    (λ c. search needs)
-    (λ c κs. search needs)
-    (λ c. search needs)
-    (λ c κs. search needs)
-    (λ c. search needs)
-    (λ c κs. search needs)
-    returns-2
-    returns-3
-    returns-4
-    returns-5
-    returns-6
-    returns-7)
+    (tie.spec (λ c κs. search needs) in-range-requires returns (λ c. search needs) write-on-requires (λ c. search needs) poll-on-requires
+    (λ c. search needs) compare-requires (λ c. search needs) (λ c κs. search needs) (λ c. search needs) (λ c κs. search needs) (λ c. search needs)
+    (λ c κs. search needs) returns-2 returns-3 returns-4 returns-5 returns-6 returns-7)
