@@ -136,15 +136,18 @@ on-cases [] c = refl
 on-cases (k ∷ ks) c = let b = both (holdsOn k) (every holdsOn ks) c in rw (on-case k ∙ b .0) (on-cases ks (b .1))
 
 computed-sheets : every holdsOn (shownAll sheets) ≡ true
-unfolding holdsOn ranOn cycleOn rowOf partRefusal fitsIn sectorSize holdsb hasBlocks sectorOf blockOf protectedOf hasCommand timeOf validOperation coreInRange stageInRange deviceInRange cellsOf completeOn cutOn effectOf ignored writtenOf actionRefusal cycleRefusal settledOf readOf cutOf acceptedOf
+unfolding holdsOn ranOn cycleOn rowOf partRefusal fitsIn sectorSize holdsb hasBlocks sectorOf blockOf protectedOf hasCommand timeOf validOperation coreInRange
+    stageInRange deviceInRange cellsOf completeOn cutOn effectOf ignored writtenOf actionRefusal cycleRefusal settledOf readOf cutOf acceptedOf
 computed-sheets = refl
 
 computed-ends : every holdsOn (protectedEnds ++ comparedBits) ≡ true
-unfolding holdsOn ranOn cycleOn rowOf partRefusal fitsIn sectorSize holdsb hasBlocks sectorOf blockOf protectedOf hasCommand timeOf validOperation coreInRange stageInRange deviceInRange cellsOf completeOn cutOn effectOf ignored writtenOf actionRefusal cycleRefusal settledOf readOf cutOf acceptedOf
+unfolding holdsOn ranOn cycleOn rowOf partRefusal fitsIn sectorSize holdsb hasBlocks sectorOf blockOf protectedOf hasCommand timeOf validOperation coreInRange
+    stageInRange deviceInRange cellsOf completeOn cutOn effectOf ignored writtenOf actionRefusal cycleRefusal settledOf readOf cutOf acceptedOf
 computed-ends = refl
 
 computed-sentences : every holdsOn sentences ≡ true
-unfolding holdsOn ranOn cycleOn rowOf partRefusal fitsIn sectorSize holdsb hasBlocks sectorOf blockOf protectedOf hasCommand timeOf validOperation coreInRange stageInRange deviceInRange cellsOf completeOn cutOn effectOf ignored writtenOf actionRefusal cycleRefusal settledOf readOf cutOf acceptedOf
+unfolding holdsOn ranOn cycleOn rowOf partRefusal fitsIn sectorSize holdsb hasBlocks sectorOf blockOf protectedOf hasCommand timeOf validOperation coreInRange
+    stageInRange deviceInRange cellsOf completeOn cutOn effectOf ignored writtenOf actionRefusal cycleRefusal settledOf readOf cutOf acceptedOf
 computed-sentences = refl
 
 -- The part table, entry by entry, as the chip shows it; both ends of the protected blocks and the compared bits; and sentences that no marked case touches.

@@ -68,7 +68,9 @@ module _ (j : Job) where
 
   -- none or a program, in front of others
   next-ordered : (b : Bool) (a x : ℕ) (ss : List Sent) → Ordered j ss → Ordered j (pick b [] (operated j PROGRAM a x) ++ ss)
-  next-ordered b a x ss h = split (λ (front : List Sent). Ordered j (front ++ ss)) b [] (operated j PROGRAM a x) (λ _. h) (λ _. both-ordered (operated j PROGRAM a x) ss (operated-ordered PROGRAM a x) h)
+  next-ordered b a x ss h =
+      split (λ (front : List Sent). Ordered j (front ++ ss)) b [] (operated j PROGRAM a x) (λ _. h)
+      (λ _. both-ordered (operated j PROGRAM a x) ss (operated-ordered PROGRAM a x) h)
 
   fills-ordered : (v : List ℕ) (a : ℕ) → Ordered j (fills j a v)
   unfolding fills
