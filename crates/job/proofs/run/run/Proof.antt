@@ -34,7 +34,7 @@ send-requires c κs = let at = c .before .before .before .before in
     (counts-up (l .held .tally) (l .held .sent) 2147483648 (omega arith) (l .inv .1 .1 .0), n)
 
 turn-requires : tie.Need-turn-requires Inv-loop μ-loop
-turn-requires c κs = let at = c .before .before .before .before .before .before .before .before in at .before .before .before .before .before .before .before .pre .0
+turn-requires c κs = let test = c .before .before .before .before .before .before .before .before in test .before .before .before .before .before .before .before .pre .0
 
 loop-less : tie.Need-loop-less Inv-loop μ-loop
 loop-less c = let at = c .before .before .before .before in
@@ -43,11 +43,11 @@ loop-less c = let at = c .before .before .before .before in
 
 loop-again : tie.Need-loop-again Inv-loop μ-loop
 loop-again c = let s = c .before .before .before .before .send in
-    let at = c .before .before .before .before .before .before in
-    let t = at .before .turn .given in
-    let l = at .before .before .before .before .before .loop in
-    let short : t .0 .1 .1 .0 .elapsed ≤ 4294967295 = omega (arith, at .known-told .given) in
-    let test = at .before .before .before .if1 .taken in
+    let told = c .before .before .before .before .before .before in
+    let t = told .before .turn .given in
+    let l = told .before .before .before .before .before .loop in
+    let short : t .0 .1 .1 .0 .elapsed ≤ 4294967295 = omega (arith, told .known-told .given) in
+    let test = told .before .before .before .if1 .taken in
     (s .kept .1 .0 ∙ l .inv .0, turns _ _ _ _ _ _ _ _ _ _ _ _ _ _ _ test (t .1) (s .ensures .0) (s .ensures .1) (c .turn2 .ensures .0) (c .turn2 .ensures .1) short (l .inv .1))
 
 returns-2 : tie.Need-returns-2 Inv-loop μ-loop
