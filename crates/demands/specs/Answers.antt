@@ -8,14 +8,18 @@ use Rattle.parts.specs.Table.{rowOf, partRefusal}
 use Rattle.parts.specs.Figures.{figure, columns}
 use Rattle.driver.specs.declared.machine.Phase.{Phase}
 use Rattle.driver.specs.declared.machine.Phase.the-variants.{Writing, Polling, Confirming, Done, GaveUp, Differs}
-use Rattle.driver.specs.Writes.{noWrite, writeCount, writesOf, writes}
+use Rattle.driver.specs.Writes.{noWrite, writeCount, writesOf, writes, kth}
 use Rattle.driver.specs.Machine.{begun, inRange}
 use Rattle.jobfile.specs.JobFile.{malformed, trailerOf, asked, valuesOf}
-use Rattle.demands.specs.Calls.{StartCall, toStart, refusedStart, StepCall, toStep, WritesCall, toWrite, refusedWrites, KthCall, StationAddressCall, StationDataCall, kthAsked, refusedKth, RowCall, rowAsked, FigureCall, StationFigureCall, FigureAsked, figureAsked, refusedFigure, FileCall, toRead, ImageCall, toReadImage, imageLeft}
+use Rattle.demands.specs.Calls.{StartCall, toStart, refusedStart, StepCall, toStep, WritesCall, ToWrite, toWrite, refusedWrites, KthCall, StationAddressCall, StationDataCall, KthAsked, kthAsked, refusedKth, RowCall, rowAsked, FigureCall, StationFigureCall, FigureAsked, figureAsked, refusedFigure, FileCall, toRead, ImageCall, toReadImage, imageLeft}
 
 -- the entry of a part's line in a column
 abbrev pub entry : FigureAsked → ℕ
 entry g = getD (columns (rowOf (g .part))) (g .column) 0
+
+-- the command whose k-th write is asked for
+abbrev pub withoutK : KthAsked → ToWrite
+withoutK g = record { part = g .part; command = g .command; address = g .address; word = g .word }
 
 -- a driver in this phase names writes
 abbrev pub writing : Phase → Bool
@@ -39,6 +43,9 @@ pub record Answers : Type 0 where
   pub kth-given : (c : KthCall) → let g = kthAsked (c .given) in refusedKth g ≡ 0
       → let w = getD (writesOf (rowOf (g .part)) (g .command) (g .address) (g .word)) (g .k) noWrite in
       c .back ≡ record { answer = 0; address = w .address; «data» = w .«data» }
+  -- So it is the k-th of the writes that are returned together, where both are asked of the same command.
+  pub kth-among : (c : KthCall) (w : WritesCall) → let g = kthAsked (c .given) in withoutK g ≡ toWrite w → refusedKth g ≡ 0
+      → c .back ≡ kth 0 (getD (w .back .writes) (g .k) noWrite)
   pub station-address-given : (c : StationAddressCall) → let g = kthAsked (c .given) in refusedKth g ≡ 0
       → c .back ≡ getD (writesOf (rowOf (g .part)) (g .command) (g .address) (g .word)) (g .k) noWrite .address
   pub station-data-given : (c : StationDataCall) → let g = kthAsked (c .given) in refusedKth g ≡ 0
