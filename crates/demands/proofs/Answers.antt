@@ -21,11 +21,11 @@ use Rattle.driver.specs.declared.machine.Step.{Step}
 use Rattle.driver.specs.declared.writes.Kth.{Kth}
 use Rattle.driver.specs.Refusals.{commandRefusal}
 use Rattle.driver.specs.Writes.{noWrite, writeCount, writesOf, writes, commandWrites, kth, kthWrite}
-use Rattle.driver.specs.Machine.{startOf, stepOf, phaseOf, writingOf, pollingOf, confirmingOf, matches, mostPolls, polls, ended, valueWanted, inRange}
+use Rattle.driver.specs.Machine.{startOf, stepOf, phaseOf, writingOf, pollingOf, confirmingOf, matches, mostPolls, polls, ended, valueWanted, inRange, writing}
 use Rattle.driver.proofs.Places.{place-at}
 use Rattle.jobfile.specs.JobFile.{jobOf}
 use Rattle.demands.specs.Calls.{StepCall, toStep, WritesCall, ToWrite, toWrite, KthCall, kthAsked, refusedKth, rowAsked}
-use Rattle.demands.specs.Answers.{withoutK, writing, Answers}
+use Rattle.demands.specs.Answers.{withoutK, Answers}
 
 -- one test decides, and it passes
 taken : {A : Type 0} (n : ℕ) (good bad : A) → n ≡ 0 → pick (eqb n 0) good bad ≡ good

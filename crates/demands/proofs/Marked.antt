@@ -28,7 +28,8 @@ use Rattle.driver.specs.Machine.{confirmAfter}
 use Rattle.job.specs.Bill.{jobFrom, fullOf, Loaded}
 use Rattle.invoice.proofs.Listed.{filling, looking}
 use Rattle.invoice.proofs.Loads.{deciding, decidingAll, reckoned, loads}
-use Rattle.demands.specs.Marked.{Cell, Case, Marked, Bus, Load, Ran, cases, holding, imageOf, blankBench, loadSixth, afterJobs, sameBill, further, ran, asSaid, before, holdsCase, holdsMarked}
+use Rattle.billing.specs.File.{blankBench}
+use Rattle.demands.specs.Marked.{Cell, Case, Marked, Bus, Load, Ran, cases, holding, imageOf, loadSixth, afterJobs, sameBill, further, ran, asSaid, before, holdsCase, holdsMarked}
 use Rattle.demands.specs.Beside.{sheets, shownAll, protectedEnds, comparedBits, sentences}
 use Rattle.chip.proofs.Ranges.{after-length}
 

@@ -14,14 +14,14 @@ use Rattle.driver.specs.Writes.{writeCount}
 use Rattle.job.specs.Refusal.{fitAll, meets, protectionRefusal, rangeRefusal, jobRefusal}
 use Rattle.jobfile.specs.Bytes.{number, field}
 use Rattle.jobfile.specs.JobFile.{wrong, malformed, jobOf, valuesOf}
-use Rattle.demands.specs.Refused.{asSaid, figures, writes, starts, cycles, jobs, fileBytes, fileAsks, fileValues}
+use Rattle.demands.specs.Refused.{answeredSo, figures, writes, starts, cycles, jobs, fileBytes, fileAsks, fileValues}
 
-pub calls-refused : every asSaid (figures ++ (writes ++ (starts ++ cycles))) ≡ true
+pub calls-refused : every answeredSo (figures ++ (writes ++ (starts ++ cycles))) ≡ true
 unfolding rowOf partRefusal fitsIn hasBlocks hasCommand timeOf isInterval validOperation coreInRange stageInRange deviceInRange actionRefusal cycleRefusal dataRefusal targetRefusal
     commandRefusal startRefusal writeCount
 calls-refused = refl
 
-pub jobs-refused : every asSaid jobs ≡ true
+pub jobs-refused : every answeredSo jobs ≡ true
 unfolding rowOf partRefusal fitsIn sectorSize holdsb hasBlocks blockOf protectedOf isInterval fitAll meets protectionRefusal rangeRefusal jobRefusal
 jobs-refused = refl
 

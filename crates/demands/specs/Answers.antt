@@ -2,14 +2,12 @@
 -- small questions (value, blank, sector and block of an address ..) refuse nothing.
 use Prim.Native.Nat.{ℕ, _-_}
 use mathlib.Core.Path.{_≡_}
-use mathlib.Core.Bool.{Bool, true, false}
+use mathlib.Core.Bool.{true, false}
 use lib.ListN.{length, getD}
 use Rattle.parts.specs.Table.{rowOf, partRefusal}
 use Rattle.parts.specs.Figures.{figure, columns}
-use Rattle.driver.specs.declared.machine.Phase.{Phase}
-use Rattle.driver.specs.declared.machine.Phase.the-variants.{Writing, Polling, Confirming, Done, GaveUp, Differs}
 use Rattle.driver.specs.Writes.{noWrite, writeCount, writesOf, writes, kth}
-use Rattle.driver.specs.Machine.{begun, inRange}
+use Rattle.driver.specs.Machine.{begun, inRange, writing}
 use Rattle.jobfile.specs.JobFile.{malformed, trailerOf, asked, valuesOf}
 use Rattle.demands.specs.Calls.{StartCall, toStart, refusedStart, StepCall, toStep, WritesCall, ToWrite, toWrite, refusedWrites, KthCall, StationAddressCall, StationDataCall, KthAsked, kthAsked, refusedKth, RowCall, rowAsked, FigureCall, StationFigureCall, FigureAsked, figureAsked, refusedFigure, FileCall, toRead, ImageCall, toReadImage, imageLeft}
 
@@ -20,15 +18,6 @@ entry g = getD (columns (rowOf (g .part))) (g .column) 0
 -- the command whose k-th write is asked for
 abbrev pub withoutK : KthAsked → ToWrite
 withoutK g = record { part = g .part; command = g .command; address = g .address; word = g .word }
-
--- a driver in this phase names writes
-abbrev pub writing : Phase → Bool
-writing Writing = true
-writing Polling = false
-writing Confirming = false
-writing Done = false
-writing GaveUp = false
-writing Differs = false
 
 pub record Answers : Type 0 where
   -- A part's row and figures are its line of the table.

@@ -14,6 +14,7 @@ use Rattle.chip.specs.Device.{freshDevice, busy}
 use Rattle.chip.specs.Cycle.{cycle, Chip, chip, Outcome, cycleOf}
 use Rattle.chip.specs.Trace.{leaves}
 use Rattle.driver.specs.Reads.{isRead}
+use Rattle.billing.specs.File.{blankBench}
 use Rattle.job.specs.declared.bill.Bill.{Bill}
 use Rattle.job.specs.Bill.{Loaded, loadOf}
 
@@ -89,9 +90,6 @@ pub record JobCase : Type 0 where
 
 abbrev pub imageOf : ℕ → List ℕ
 imageOf sixth = set (replicate 2048 0xffff) 5 sixth
-
-abbrev pub blankBench : List ℕ
-blankBench = replicate 8192 0xffff
 
 -- a job of such an image
 abbrev pub loadSixth : List ℕ → ℕ → Loaded

@@ -49,8 +49,8 @@ pub record Answered : Type 0 where
 abbrev pub says : ℕ → Asked → Answered
 says n a = record { number = n; asked = a }
 
-abbrev pub asSaid : Answered → Bool
-asSaid s = eqb (refusal (s .asked)) (s .number)
+abbrev pub answeredSo : Answered → Bool
+answeredSo s = eqb (refusal (s .asked)) (s .number)
 
 -- ---- part figures: 1, 15
 abbrev pub figures : List Answered
