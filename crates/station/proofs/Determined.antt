@@ -1,16 +1,16 @@
 -- Each exported function's promise determines its result: any two results that it allows are equal. Stated on the promise that is made from the source.
 use mathlib.Core.Path.{sym, _∙_}
 use Rattle.parts.proofs.Unique.{Unique}
-use Rattle.station.proofs.station_figure.Kinds as figure-kinds
-use Rattle.station.proofs.station_figure.Reads as figure-reads
-use Rattle.station.proofs.station_figure_answer.Kinds as answer-kinds
-use Rattle.station.proofs.station_figure_answer.Reads as answer-reads
-use Rattle.station.proofs.station_write_address.Kinds as write-address-kinds
-use Rattle.station.proofs.station_write_address.Reads as write-address-reads
-use Rattle.station.proofs.station_write_data.Kinds as write-data-kinds
-use Rattle.station.proofs.station_write_data.Reads as write-data-reads
-use Rattle.station.proofs.station_write_answer.Kinds as write-answer-kinds
-use Rattle.station.proofs.station_write_answer.Reads as write-answer-reads
+use Rattle.station.proofs.figures.station_figure.Kinds as figure-kinds
+use Rattle.station.proofs.figures.station_figure.Reads as figure-reads
+use Rattle.station.proofs.figures.station_figure_answer.Kinds as answer-kinds
+use Rattle.station.proofs.figures.station_figure_answer.Reads as answer-reads
+use Rattle.station.proofs.figures.station_write_address.Kinds as write-address-kinds
+use Rattle.station.proofs.figures.station_write_address.Reads as write-address-reads
+use Rattle.station.proofs.figures.station_write_data.Kinds as write-data-kinds
+use Rattle.station.proofs.figures.station_write_data.Reads as write-data-reads
+use Rattle.station.proofs.figures.station_write_answer.Kinds as write-answer-kinds
+use Rattle.station.proofs.figures.station_write_answer.Reads as write-answer-reads
 
 pub figure-unique : Unique figure-kinds.ps figure-kinds.r figure-reads.Post
 figure-unique κs a x y s t p q = p ∙ sym q
