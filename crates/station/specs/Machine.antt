@@ -2,7 +2,7 @@
 use Prim.Native.Nat.{ℕ}
 use lib.Dec.{eqb, ltb}
 use Rattle.parts.specs.Names.{NO-CYCLE, A-READ, A-WRITE, BAD-STATE}
-use Rattle.parts.specs.Pick.{pick, _when_, _else_}
+use Rattle.parts.specs.Pick.{_when_, _else_}
 use Rattle.chip.specs.declared.cycle.Action.{Action}
 use Rattle.chip.specs.declared.cycle.Action.the-variants.{Read, Write, Idle, Cut}
 use Rattle.driver.specs.declared.machine.Phase.{Phase}
@@ -70,6 +70,13 @@ sentNumbers e (Cut s) = noCycle
 abbrev pub nextNumbers : Next → CycleNumbers
 nextNumbers Nothing = noCycle
 nextNumbers (Send e a) = sentNumbers e a
+
+-- the cycle of some numbers: any kind but 0 and 1 is a write
+unfoldable pub nextOf : CycleNumbers → Next
+nextOf n =
+    Nothing when eqb (n .kind) NO-CYCLE
+    else Send (n .elapsed) (Read (n .address)) when eqb (n .kind) A-READ
+    else Send (n .elapsed) (Write (n .address) (n .«data»))
 
 -- ---- a start and a step
 abbrev pub startNumbers : Started → StartNumbers
