@@ -261,7 +261,7 @@ struct station_report station_load_first(uint32_t part, uint16_t *cells, size_t 
 
 /* The bill of the job that a file of n bytes asks for, on a blank bench part. Refused with
    STATION_BAD_FILE where the file is malformed or has more than 20,480 bytes; then as station_load.
-   It needs 40 kilobytes of stack. */
+   It needs up to 48 kilobytes of stack, the other calls up to 12. */
 struct station_bill station_bill(const uint8_t *file, size_t n);
 
 /* ---- Single writes of a command, for a controller that sends them by itself */

@@ -134,8 +134,7 @@ unfolding cycleRefusal deviceInRange stageInRange
 no-device part lent n a h = simp h
 
 -- a refused cycle: its number, value 0, the numbers as they came, and no cell changed
-pub refused-numbers : (part : ℕ) (cells : List ℕ) (n : DeviceNumbers) (e wp : ℕ) (a : Action) (k : ℕ) → 0 < k
-    → cycleRefusal part (length cells) (deviceOf n) a ≡ k
-    → (replyNumbers n (cycledOf part cells n e wp a .reply) ≡ record { answer = k; value = 0; device = n }) × (cycledOf part cells n e wp a .cells ≡ cells)
+pub refused-numbers : (part : ℕ) (cells : List ℕ) (n : DeviceNumbers) (e wp : ℕ) (a : Action) (k : ℕ) → 0 < k → cycleRefusal part (length cells) (deviceOf n) a ≡ k
+    → cycledOf part cells n e wp a ≡ record { cells = cells; reply = record { answer = k; value = 0; device = n } }
 unfolding replyNumbers cycleOf
-refused-numbers part cells n e wp a k h r = simp (r, ne-eqb k 0 (λ z. omega arith), lt-ltb 0 k h) (refl, refl)
+refused-numbers part cells n e wp a k h r = simp (r, ne-eqb k 0 (λ z. omega arith), lt-ltb 0 k h)

@@ -51,7 +51,7 @@ module _ (wp : ℕ) where
   -- once a cycle is sent
   goes-on : (part n : ℕ) → ((s : Step) → NextBack s → (h : Chip) → Same part n s h) → (d : Driver) (e : ℕ) (a : Action) (h : Chip)
       → let v = deviceNumbers (h .device) in let o = cycledOf part (h .cells) v e wp a in let c = cycle e (high wp) a in
-      loop part wp n (steppedOf (driverNumbers d) (replyNumbers v (o .reply) .value)) (o .cells) (replyNumbers v (o .reply) .device)
+      loop part wp n (steppedOf (driverNumbers d) (o .reply .value)) (o .cells) (o .reply .device)
       ≡ toldNumbers (talk part (high wp) n (stepOf d (shows part h c)) (after part h c))
   unfolding after
   goes-on part n rest d e a h =

@@ -61,6 +61,15 @@ replyNumbers n r =
     (record { answer = r .answer; value = r .value; device = n })
     (record { answer = 0; value = r .value; device = deviceNumbers (r .device) })
 
--- the cycle on the device that the numbers mean: the cells that it leaves, and its reply
-abbrev pub cycledOf : ℕ → List ℕ → DeviceNumbers → ℕ → ℕ → Action → Outcome
-cycledOf part cells n e wp a = cycleOf part cells (deviceOf n) (cycle e (high wp) a)
+-- what a cycle leaves on the cells, and its reply
+pub record Cycled : Type 0 where
+  pub cells : List ℕ
+  pub reply : ReplyNumbers
+
+-- the numbers of an outcome
+abbrev pub cycledNumbers : DeviceNumbers → Outcome → Cycled
+cycledNumbers n o = record { cells = o .cells; reply = replyNumbers n (o .reply) }
+
+-- the cycle on the device that the numbers mean
+abbrev pub cycledOf : ℕ → List ℕ → DeviceNumbers → ℕ → ℕ → Action → Cycled
+cycledOf part cells n e wp a = cycledNumbers n (cycleOf part cells (deviceOf n) (cycle e (high wp) a))

@@ -8,7 +8,7 @@ use Rattle.driver.specs.Talk.{Told, Heard}
 use Rattle.station.specs.declared.machine.StepNumbers.{StepNumbers}
 use Rattle.station.specs.declared.cycle.DeviceNumbers.{DeviceNumbers}
 use Rattle.station.specs.Machine.{nextOf, stepNumbers, steppedOf}
-use Rattle.station.specs.Cycle.{high, deviceNumbers, replyNumbers, cycledOf}
+use Rattle.station.specs.Cycle.{high, deviceNumbers, cycledOf}
 
 -- ---- against the model
 -- the cycles sent, the cells and the device that they left, and the step that stands
@@ -32,8 +32,8 @@ loop part wp (suc n) s cells v =
     elim (nextOf (s .cycle)) [
       | Nothing ↦ looped [] cells v s
       | Send e a ↦
-          let r = replyNumbers v (cycledOf part cells v e wp a .reply) in
-          let t = loop part wp n (steppedOf (s .driver) (r .value)) (cycledOf part cells v e wp a .cells) (r .device) in
+          let o = cycledOf part cells v e wp a in
+          let t = loop part wp n (steppedOf (s .driver) (o .reply .value)) (o .cells) (o .reply .device) in
           looped (cycle e (high wp) a ∷ t .cycles) (t .cells) (t .device) (t .last)
     ]
 

@@ -156,7 +156,7 @@ fn cycled(
     wp: u32,
     action: Action,
 ) -> ReplyNumbers
-    ensures { λ r. ⌜ (r ≡ replyNumbers device (cycledOf part (now (cells .entry)) device elapsed wp action .reply)) × (now (cells .exit) ≡ cycledOf part (now (cells .entry)) device elapsed wp action .cells) ⌝ }
+    ensures { λ r. ⌜ (r ≡ cycledOf part (now (cells .entry)) device elapsed wp action .reply) × (now (cells .exit) ≡ cycledOf part (now (cells .entry)) device elapsed wp action .cells) ⌝ }
 {
     let d = device_of(device);
     let cycle = Cycle {
@@ -185,7 +185,7 @@ pub extern "C" fn station_read(
     wp: u32,
     address: u32,
 ) -> ReplyNumbers
-    ensures { λ r. ⌜ (r ≡ replyNumbers device (cycledOf part (now (cells .entry)) device elapsed wp (Action.Read address) .reply)) × (now (cells .exit) ≡ cycledOf part (now (cells .entry)) device elapsed wp (Action.Read address) .cells) ⌝ }
+    ensures { λ r. ⌜ (r ≡ cycledOf part (now (cells .entry)) device elapsed wp (Action.Read address) .reply) × (now (cells .exit) ≡ cycledOf part (now (cells .entry)) device elapsed wp (Action.Read address) .cells) ⌝ }
 {
     cycled(part, cells, device, elapsed, wp, Action::Read(address))
 }
@@ -201,7 +201,7 @@ pub extern "C" fn station_write(
     address: u32,
     data: u16,
 ) -> ReplyNumbers
-    ensures { λ r. ⌜ (r ≡ replyNumbers device (cycledOf part (now (cells .entry)) device elapsed wp (Action.Write address «data») .reply)) × (now (cells .exit) ≡ cycledOf part (now (cells .entry)) device elapsed wp (Action.Write address «data») .cells) ⌝ }
+    ensures { λ r. ⌜ (r ≡ cycledOf part (now (cells .entry)) device elapsed wp (Action.Write address «data») .reply) × (now (cells .exit) ≡ cycledOf part (now (cells .entry)) device elapsed wp (Action.Write address «data») .cells) ⌝ }
 {
     let action = Action::Write(address, data);
     cycled(part, cells, device, elapsed, wp, action)
@@ -216,7 +216,7 @@ pub extern "C" fn station_idle(
     elapsed: u32,
     wp: u32,
 ) -> ReplyNumbers
-    ensures { λ r. ⌜ (r ≡ replyNumbers device (cycledOf part (now (cells .entry)) device elapsed wp Action.Idle .reply)) × (now (cells .exit) ≡ cycledOf part (now (cells .entry)) device elapsed wp Action.Idle .cells) ⌝ }
+    ensures { λ r. ⌜ (r ≡ cycledOf part (now (cells .entry)) device elapsed wp Action.Idle .reply) × (now (cells .exit) ≡ cycledOf part (now (cells .entry)) device elapsed wp Action.Idle .cells) ⌝ }
 {
     cycled(part, cells, device, elapsed, wp, Action::Idle)
 }
@@ -231,7 +231,7 @@ pub extern "C" fn station_cut(
     wp: u32,
     scar: u16,
 ) -> ReplyNumbers
-    ensures { λ r. ⌜ (r ≡ replyNumbers device (cycledOf part (now (cells .entry)) device elapsed wp (Action.Cut scar) .reply)) × (now (cells .exit) ≡ cycledOf part (now (cells .entry)) device elapsed wp (Action.Cut scar) .cells) ⌝ }
+    ensures { λ r. ⌜ (r ≡ cycledOf part (now (cells .entry)) device elapsed wp (Action.Cut scar) .reply) × (now (cells .exit) ≡ cycledOf part (now (cells .entry)) device elapsed wp (Action.Cut scar) .cells) ⌝ }
 {
     cycled(part, cells, device, elapsed, wp, Action::Cut(scar))
 }

@@ -5,7 +5,9 @@ use Rattle.station.proofs.cycle.cycled.Statement.{statement}
 use Rattle.station.proofs.cycle.cycled.Tie as tie
 
 returns : tie.Need-returns
-returns c = simp (c .reply-numbers .ensures, c .before .before .before .bus-cycle .ensures .0, c .before .before .before .bus-cycle .ensures .1, c .before .before .before .before .before .device-of .ensures) (refl, refl)
+returns c =
+    let b = c .before .before .before in
+    simp (c .reply-numbers .ensures, b .bus-cycle .ensures .0, b .bus-cycle .ensures .1, b .before .before .device-of .ensures) (refl, refl)
 
 pub cycled-spec : {M : Type 1} → statement M
 cycled-spec =
