@@ -30,9 +30,13 @@ pub fn bill(bytes: &[u8], cells: &mut [u16]) -> Bill {
     job::load(&job, cells)
 }
 
-/// What `bill` prints for a file: nine lines, or the answer line of a refusal.
+/// What `bill` prints for a file.
 pub fn print(bytes: &[u8]) -> String {
-    let bill = bill(bytes, &mut [0xFFFF; BENCH_CELLS]);
+    text(&bill(bytes, &mut [0xFFFF; BENCH_CELLS]))
+}
+
+/// A bill as it is printed: nine lines, or the answer line of a refusal.
+pub fn text(bill: &Bill) -> String {
     let answer = format!("answer {}\n", bill.answer);
     if bill.answer != 0 {
         return answer;

@@ -10,6 +10,7 @@ pub mod driver;
 pub mod events;
 pub mod file;
 pub mod job;
+pub mod load;
 pub mod make;
 pub mod part;
 pub mod random;

@@ -7,6 +7,7 @@ use std::process::ExitCode;
 
 use second::bill;
 use second::events::Counts;
+use second::load;
 use second::make::{self, Recorded};
 use second::speed;
 use second::station::{replay, LARGE};
@@ -18,6 +19,7 @@ count                                 print the event counts of the recorded fil
 soak KIND SEED COUNT [--expected]     print COUNT cases of a kind, or what they print
 run                                   run the cases of standard input
 job SEED                              print the raw bytes of a job file
+load SEED DIR                         write a call of the program station, its files, and what has to come of it
 speed job COUNT                       load COUNT random words on part 8, to be timed
 speed cycles COUNT                    program COUNT random words on part 8 by bare bus cycles, to be timed
 ";
@@ -36,6 +38,7 @@ fn main() -> ExitCode {
         ["soak", kind, seed, count, "--expected"] => soak(kind, seed, count, true),
         ["run"] => run_cases(),
         ["job", seed] => print_job(seed),
+        ["load", seed, directory] => write_load(seed, Path::new(directory)),
         ["speed", what, count] => run_speed(what, count),
         _ => Err(format!("usage:\n{USAGE}kinds: {}", make::kinds().join(" "))),
     };
@@ -124,6 +127,28 @@ fn run_cases() -> Result<(), String> {
 
 fn print_job(seed: &str) -> Result<(), String> {
     print(&make::job_file(seed.parse().map_err(text)?))
+}
+
+/// Writes a call of `station load`: its words, cells and image; and the bill,
+/// the map and the cells afterwards, the last two where it is taken.
+fn write_load(seed: &str, directory: &Path) -> Result<(), String> {
+    let seed = seed.parse().map_err(text)?;
+    let asked = make::asked(seed);
+    fs::create_dir_all(directory).map_err(text)?;
+    let write = |name: &str, bytes: &[u8]| fs::write(directory.join(name), bytes).map_err(text);
+    let width = load::width(asked.part);
+    write("words", make::words(&asked, seed).join("\n").as_bytes())?;
+    write("image.bin", &load::bytes(&asked.image, width))?;
+    if let Some(cells) = &asked.cells {
+        write("cells.bin", &load::bytes(cells, width))?;
+    }
+    let loaded = load::load(&asked);
+    write("bill", bill::text(&loaded.bill).as_bytes())?;
+    if loaded.bill.answer == 0 {
+        write("map", loaded.map.as_bytes())?;
+        write("wanted.bin", &load::bytes(&loaded.cells, width))?;
+    }
+    Ok(())
 }
 
 fn run_speed(what: &str, count: &str) -> Result<(), String> {

@@ -5,9 +5,11 @@ mod drivers;
 mod figures;
 mod files;
 mod jobs;
+mod loads;
 mod marked;
 
 pub use files::{job_file, marked_file};
+pub use loads::{asked, words};
 
 use crate::events::{Before, Counts, Watch};
 use crate::part::Part;

@@ -5,6 +5,7 @@ mod cycles;
 mod drivers;
 mod files;
 mod jobs;
+mod loads;
 mod marked;
 mod parts;
 mod recorded;
