@@ -1,0 +1,141 @@
+/* A controller in C: one program, one erase and one whole job over a bus that is three functions: read, write and wait. Which cycle
+   comes next, and when an operation is over, the proved library says; nothing here knows a rule of the chip. The buses are the proved
+   model and a dead socket, where nothing answers. */
+#include <inttypes.h>
+#include <stdio.h>
+
+#include "station.h"
+
+/* A bus; a controller's own is its pins. The socket is what the functions work on. */
+struct bus {
+    const char *name;
+    void *socket;
+    uint16_t (*read)(void *socket, uint32_t address);
+    void (*write)(void *socket, uint32_t address, uint16_t data);
+    void (*wait)(void *socket, uint32_t micros);
+};
+
+/* How an operation or a job ended, and what went over the bus for it. */
+struct outcome {
+    uint32_t answer;
+    uint64_t cycles;
+    uint64_t micros;
+};
+
+/* Sends a cycle that the library names, and gives what it showed; of a write, 0. */
+static uint16_t send(const struct bus *bus, const struct station_cycle *cycle, struct outcome *so_far)
+{
+    so_far->cycles++;
+    so_far->micros += cycle->elapsed;
+    if (cycle->elapsed > 0)
+        bus->wait(bus->socket, cycle->elapsed);
+    if (cycle->kind == STATION_A_READ)
+        return bus->read(bus->socket, cycle->address);
+    bus->write(bus->socket, cycle->address, cycle->data);
+    return 0;
+}
+
+/* One program or erase. */
+static struct outcome perform(const struct bus *bus, uint32_t part, uint32_t command, uint32_t address, uint16_t data, uint32_t p)
+{
+    struct outcome outcome = {0, 0, 0};
+    const struct station_started started = station_start(part, command, address, data, p);
+    struct station_driver driver = started.driver;
+    uint16_t shown = 0;
+    outcome.answer = started.answer;
+    while (outcome.answer == STATION_TAKEN) {
+        const struct station_stepped step = station_step(driver, shown);
+        outcome.answer = step.answer;
+        if (step.cycle.kind == STATION_NO_CYCLE)
+            break;
+        driver = step.driver;
+        shown = send(bus, &step.cycle, &outcome);
+    }
+    return outcome;
+}
+
+/* The model as a socket: a device, its cells, and the time that was waited since the last cycle. */
+struct model {
+    uint32_t part;
+    uint16_t *cells;
+    size_t count;
+    struct station_device device;
+    uint32_t waited;
+    uint32_t wp;
+};
+
+static uint16_t model_read(void *socket, uint32_t address)
+{
+    struct model *model = (struct model *)socket;
+    const struct station_reply reply =
+        station_read(model->part, model->cells, model->count, model->device, model->waited, model->wp, address);
+    model->device = reply.device;
+    model->waited = 0;
+    return reply.value;
+}
+
+static void model_write(void *socket, uint32_t address, uint16_t data)
+{
+    struct model *model = (struct model *)socket;
+    model->device =
+        station_write(model->part, model->cells, model->count, model->device, model->waited, model->wp, address, data).device;
+    model->waited = 0;
+}
+
+static void model_wait(void *socket, uint32_t micros)
+{
+    struct model *model = (struct model *)socket;
+    model->waited += micros;
+}
+
+/* A dead socket: every read shows the same, whatever was written. */
+static uint16_t dead_read(void *socket, uint32_t address)
+{
+    (void)address;
+    return *(const uint16_t *)socket;
+}
+
+static void dead_write(void *socket, uint32_t address, uint16_t data)
+{
+    (void)socket;
+    (void)address;
+    (void)data;
+}
+
+static void dead_wait(void *socket, uint32_t micros)
+{
+    (void)socket;
+    (void)micros;
+}
+
+static void print_outcome(const struct bus *bus, const char *what, struct outcome outcome)
+{
+    printf("%s: %s: answer %" PRIu32 ", %" PRIu64 " cycles, %" PRIu64 " us\n", bus->name, what, outcome.answer, outcome.cycles,
+           outcome.micros);
+}
+
+/* What the controller does on any bus. */
+static void work(const struct bus *bus)
+{
+    const uint32_t part = 0, p = 10;
+    print_outcome(bus, "program 1234H at 5", perform(bus, part, STATION_PROGRAM, 5, 0x1234, p));
+    print_outcome(bus, "program 1235H at 5, which is not blank", perform(bus, part, STATION_PROGRAM, 5, 0x1235, p));
+    print_outcome(bus, "erase the sector at 5", perform(bus, part, STATION_SECTOR_ERASE, 5, 0, p));
+    print_outcome(bus, "program 1235H at 5", perform(bus, part, STATION_PROGRAM, 5, 0x1235, p));
+    print_outcome(bus, "program past the cells", perform(bus, part, STATION_PROGRAM, 8192, 0, p));
+}
+
+int main(void)
+{
+    uint16_t cells[8192], nothing = 0;
+    const size_t count = sizeof cells / sizeof cells[0];
+    struct model model = {0, cells, count, station_fresh(), 0, 1};
+    const struct bus buses[] = {{"model", &model, model_read, model_write, model_wait},
+                                {"dead socket", &nothing, dead_read, dead_write, dead_wait}};
+    for (size_t i = 0; i < count; i++)
+        cells[i] = 0xffff;
+    for (size_t i = 0; i < sizeof buses / sizeof buses[0]; i++)
+        work(&buses[i]);
+    printf("cell 5 of the model: %04XH\n", (unsigned)cells[5]);
+    return 0;
+}
