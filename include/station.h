@@ -13,7 +13,8 @@
    and give it to the next call.
 
    What a caller has to keep to:
-   - the types as they are declared here: nothing checks a declaration against the archive;
+   - the types as they are declared here, for an archive of the same version: nothing in it checks
+     them, but tests/pages/header holds this file to the sources;
    - a pointer is not NULL and points to as many elements as the size after it says, in memory that
      nothing else uses during the call; what is read and what is written do not overlap;
    - a WP# level given as a number is low for 0 and high for any other;
@@ -145,7 +146,7 @@ struct station_started station_start(uint32_t part, uint32_t command, uint32_t a
 
 /* The next cycle, or the end. read is the value that the last read cycle showed; any number as long
    as none was sent. A driver that has ended gives its end again. */
-struct station_stepped station_step(struct station_driver driver, uint16_t read);
+struct station_stepped station_step(struct station_driver state, uint16_t read);
 
 /* ---- The model of a chip: cells and a device, which answer cycles as the chip does */
 
