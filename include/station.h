@@ -13,13 +13,14 @@
    and give it to the next call.
 
    What a caller has to keep to:
-   - the types as they are declared here: nothing checks a declaration against the archive;
+   - the types as they are declared here, for an archive of the same version: nothing in it checks
+     them, but tests/pages/header holds this file to the sources;
    - a pointer is not NULL and points to as many elements as the size after it says, in memory that
      nothing else uses during the call; what is read and what is written do not overlap;
    - a WP# level given as a number is low for 0 and high for any other;
    - data is 16 bits wide, in C too and on eight-bit parts: a wider number has to be tested before
      it is passed, as C drops its upper bits in silence;
-   - a function that gives a number alone gives 0 where it refuses: ask the one that ends in _answer;
+   - a function that gives one number gives 0 where it refuses: ask the one that ends in _answer;
    - structures have padding: compare their fields, not their bytes. */
 #ifndef PEATLANTERN_STATION_H
 #define PEATLANTERN_STATION_H
@@ -36,21 +37,21 @@ extern "C" {
    about each. Where two apply, a call gives the one that it names first. */
 enum station_answer {
     STATION_TAKEN = 0,
-    STATION_NO_PART = 1,        /* part above 10 */
-    STATION_WRONG_CELLS = 2,    /* not as many cells lent as the part has */
-    STATION_NO_ADDRESS = 3,     /* address at or past the cells */
-    STATION_DATA_TOO_LARGE = 4, /* data above 255 on an eight-bit part */
-    STATION_BAD_STATE = 5,      /* numbers that are no state, or none in range for the part */
-    STATION_NOT_SECTORS = 6,    /* first address or number of values no multiple of the sector */
-    STATION_PAST_CELLS = 7,     /* the image ends past the cells */
+    STATION_NO_PART = 1,         /* part above 10 */
+    STATION_WRONG_CELLS = 2,     /* not as many cells lent as the part has */
+    STATION_NO_ADDRESS = 3,      /* address at or past the cells */
+    STATION_DATA_TOO_LARGE = 4,  /* data above 255 on an eight-bit part */
+    STATION_BAD_STATE = 5,       /* numbers that are no state, or none in range for the part */
+    STATION_NOT_SECTORS = 6,     /* first address or number of values no multiple of the sector */
+    STATION_PAST_CELLS = 7,      /* the image ends past the cells */
     STATION_VALUE_TOO_LARGE = 8, /* an image value above 255 on an eight-bit part */
-    STATION_PROTECTED = 9,      /* WP# low, and the range holds a protected cell */
-    STATION_BAD_INTERVAL = 10,  /* p is 0 or above 1,000 */
-    STATION_GAVE_UP = 11,       /* a driver's end: polling gave up */
-    STATION_DIFFERS = 12,       /* a driver's end: the confirming read differs */
-    STATION_BAD_FILE = 13,      /* job file malformed or too long */
-    STATION_NO_COMMAND = 14,    /* command above 3, or a block erase of a part without blocks */
-    STATION_PAST_THE_END = 15   /* column above 6, or k past the command's writes */
+    STATION_PROTECTED = 9,       /* WP# low, and the range holds a protected cell */
+    STATION_BAD_INTERVAL = 10,   /* p is 0 or above 1,000 */
+    STATION_GAVE_UP = 11,        /* a driver's end: polling gave up */
+    STATION_DIFFERS = 12,        /* a driver's end: the confirming read differs */
+    STATION_BAD_FILE = 13,       /* job file malformed or too long */
+    STATION_NO_COMMAND = 14,     /* command above 3, or a block erase of a part without blocks */
+    STATION_PAST_THE_END = 15    /* column above 6, or k past the command's writes */
 };
 
 /* ---- The figures of a part */
@@ -95,7 +96,7 @@ enum station_phase {
     STATION_ENDED_DIFFERS = 5
 };
 
-/* A driver: what is asked, its phase, and the writes named so far, or from the polling on the polls. */
+/* A driver: what is asked, its phase, and how many writes are named, from the polling on polls. */
 struct station_driver {
     uint32_t part;
     uint32_t command;
@@ -140,12 +141,12 @@ struct station_stepped {
 
 /* Starts a command, polled every p microseconds. Refused with STATION_NO_PART, STATION_BAD_INTERVAL,
    STATION_NO_COMMAND, STATION_NO_ADDRESS, STATION_DATA_TOO_LARGE. */
-struct station_started station_start(uint32_t part, uint32_t command, uint32_t address, uint16_t data,
-                                     uint32_t p);
+struct station_started station_start(uint32_t part, uint32_t command, uint32_t address,
+                                     uint16_t data, uint32_t p);
 
 /* The next cycle, or the end. read is the value that the last read cycle showed; any number as long
    as none was sent. A driver that has ended gives its end again. */
-struct station_stepped station_step(struct station_driver driver, uint16_t read);
+struct station_stepped station_step(struct station_driver state, uint16_t read);
 
 /* ---- The model of a chip: cells and a device, which answer cycles as the chip does */
 
@@ -177,17 +178,20 @@ struct station_reply {
 struct station_device station_fresh(void);
 
 /* One bus cycle on all n cells of a part, elapsed microseconds after the last one, at a WP# level:
-   a read, a write, time alone, or a power cut, whose scar stays in cells of the operation that it cuts short.
-   Refused with STATION_NO_PART, STATION_WRONG_CELLS, STATION_BAD_STATE; then a read and a write with
-   STATION_NO_ADDRESS, and a write with STATION_DATA_TOO_LARGE. */
-struct station_reply station_read(uint32_t part, uint16_t *cells, size_t n, struct station_device device,
-                                  uint32_t elapsed, uint32_t wp, uint32_t address);
-struct station_reply station_write(uint32_t part, uint16_t *cells, size_t n, struct station_device device,
-                                   uint32_t elapsed, uint32_t wp, uint32_t address, uint16_t data);
-struct station_reply station_idle(uint32_t part, uint16_t *cells, size_t n, struct station_device device,
-                                  uint32_t elapsed, uint32_t wp);
-struct station_reply station_cut(uint32_t part, uint16_t *cells, size_t n, struct station_device device,
-                                 uint32_t elapsed, uint32_t wp, uint16_t scar);
+   a read, a write, time alone, or a power cut, which leaves the scar on the cells of an operation
+   that it cuts short. Refused with STATION_NO_PART, STATION_WRONG_CELLS, STATION_BAD_STATE; then a
+   read and a write with STATION_NO_ADDRESS, and a write with STATION_DATA_TOO_LARGE. */
+struct station_reply station_read(uint32_t part, uint16_t *cells, size_t n,
+                                  struct station_device device, uint32_t elapsed, uint32_t wp,
+                                  uint32_t address);
+struct station_reply station_write(uint32_t part, uint16_t *cells, size_t n,
+                                   struct station_device device, uint32_t elapsed, uint32_t wp,
+                                   uint32_t address, uint16_t data);
+struct station_reply station_idle(uint32_t part, uint16_t *cells, size_t n,
+                                  struct station_device device, uint32_t elapsed, uint32_t wp);
+struct station_reply station_cut(uint32_t part, uint16_t *cells, size_t n,
+                                 struct station_device device, uint32_t elapsed, uint32_t wp,
+                                 uint16_t scar);
 
 /* ---- The job file */
 
@@ -276,8 +280,8 @@ uint16_t station_write_data(uint32_t part, uint32_t command, uint32_t address, u
                             uint32_t k);
 
 /* The answer to the same question: STATION_TAKEN (the write stands), STATION_NO_PART,
-   STATION_NO_COMMAND, STATION_NO_ADDRESS, STATION_DATA_TOO_LARGE or STATION_PAST_THE_END, the first of these
-   that applies. */
+   STATION_NO_COMMAND, STATION_NO_ADDRESS, STATION_DATA_TOO_LARGE or STATION_PAST_THE_END, the first
+   of these that applies. */
 uint32_t station_write_answer(uint32_t part, uint32_t command, uint32_t address, uint16_t data,
                               uint32_t k);
 

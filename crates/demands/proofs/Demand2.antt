@@ -30,9 +30,19 @@ use Rattle.driver.specs.declared.machine.Next.the-variants.{Nothing}
 use Rattle.driver.specs.Refusals.{commandRefusal, startRefusal}
 use Rattle.driver.specs.Writes.{write, unlock, lastWrite, writeCount, writesOf, sixPlaces, commandWrites}
 use Rattle.driver.specs.Machine.{addressOf, confirmAfter, bitSeven, bitWanted, startOf, mostPolls, countFits, inRange, step, matches, pollingOf, confirmingOf, phaseOf, stepOf}
-use Rattle.driver.specs.Talk.{writeCycles, shownAfter, Told, talk}
+use Rattle.driver.specs.Talk.{writeCycles, shownAfter, Told, talk, heard}
 use Rattle.driver.proofs.Asked.{asking, begun}
 use Rattle.driver.proofs.Theorems as Theorems
+use Rattle.station.specs.declared.machine.DriverNumbers.{DriverNumbers}
+use Rattle.station.specs.declared.machine.StartNumbers.{StartNumbers}
+use Rattle.station.specs.declared.machine.StepNumbers.{StepNumbers}
+use Rattle.station.specs.Machine.{driverNumbers, driverOf, stepNumbers, steppedOf}
+use Rattle.station.specs.Cycle.{high, deviceNumbers}
+use Rattle.station.specs.Loop.{Looped, toldNumbers, loop, heardNumbers, loopHearing}
+use Rattle.station.proofs.Back.{driver-back, step-of-driver, next-back, taken-numbers}
+use Rattle.station.proofs.Loop.{loop-is-talk, hearing-is-heard}
+use Rattle.demands.specs.Controller.{StationStartCall, onStation}
+use Rattle.demands.proofs.Controller.{station-left}
 use Rattle.demands.specs.Calls.{onBus, refusedCycle, toWrite, ToStart, toStart, refusedStart, StepCall, toStep}
 use Rattle.demands.specs.Demand2.{IdleUnprotected, operationAsked, polls, noRead, Demand2}
 
@@ -163,6 +173,35 @@ same-step : (c e : StepCall) → toStep c .driver ≡ toStep e .driver
     → stepOf (toStep c .driver) (toStep c .read) ≡ stepOf (toStep c .driver) (toStep e .read) → c .back ≡ e .back
 same-step c e same h = c .promise ∙ (h ∙ (ap (λ (d : Driver). stepOf d (toStep e .read)) same ∙ sym (e .promise)))
 
+-- the driver of a start
+abbrev driverStarted : ToStart → Driver
+driverStarted g = startOf (g .part) (g .command) (g .address) (g .word) (g .p) .driver
+
+-- ---- the C controller's loop, from the numbers of a start on
+begun-numbers : (c : StationStartCall) → c .back .driver ≡ driverNumbers (driverStarted (toStart (c .given)))
+begun-numbers c = ap (λ (t : StartNumbers). t .driver) (c .promise)
+
+-- they mean the driver
+means : (g : ToStart) (v : DriverNumbers) → v ≡ driverNumbers (driverStarted g) → driverOf v ≡ driverStarted g
+means g v b = ap driverOf b ∙ driver-back (driverStarted g)
+
+module _ (g : ToStart) (v : DriverNumbers) (b : v ≡ driverNumbers (driverStarted g)) (wp read n : ℕ) where
+  -- its first step is the driver's
+  first-step : steppedOf v read ≡ stepNumbers (stepOf (driverStarted g) read)
+  first-step = ap (λ (x : DriverNumbers). steppedOf x read) b ∙ step-of-driver (driverStarted g) read
+
+  loops : (cells : List ℕ) (d : Device)
+      → loop (g .part) wp n (steppedOf v read) cells (deviceNumbers d) ≡ toldNumbers (talk (g .part) (high wp) n (stepOf (driverStarted g) read) (chip cells d))
+  loops cells d =
+      ap (λ (s : StepNumbers). loop (g .part) wp n s cells (deviceNumbers d)) first-step
+      ∙ loop-is-talk wp (g .part) n (stepOf (driverStarted g) read) (next-back (driverStarted g) read) (chip cells d)
+
+  hears : (f : ℕ → ℕ) → loopHearing wp f n (steppedOf v read) ≡ heardNumbers (heard (high wp) f n (stepOf (driverOf v) read))
+  hears f =
+      ap (loopHearing wp f n) first-step
+      ∙ (hearing-is-heard wp f n (stepOf (driverStarted g) read) (next-back (driverStarted g) read)
+      ∙ ap (λ (d : Driver). heardNumbers (heard (high wp) f n (stepOf d read))) (sym (means g v b)))
+
 -- ---- together
 pub demand-2 : Demand2
 unfolding cycleOf acceptedOf
@@ -185,4 +224,16 @@ demand-2 =
           same-step c e same (in-range d u v (λ _. ignores d u v (d .phase) none));
       low-bits-count = λ c e same alike. let d = toStep c .driver in let u = toStep c .read in let v = toStep e .read in
           same-step c e same (in-range d u v (λ z. counts d u v (d .phase) (bits d u v alike z) alike));
+      station-cycle-acts = λ c accepted. let g = onStation c in station-left c ∙ taken-numbers (g .part) (g .cells) (g .device) (g .cycle) accepted;
+      station-starts = λ c accepted cells d wp i read n enough. let g = toStart (c .given) in
+          ap (λ (t : Looped). startedIn (g .part) (chip cells d) (t .cycles)) (loops g (c .back .driver) (begun-numbers c) wp read n cells d)
+          ∙ starts g accepted cells d (high wp) i read n enough;
+      station-succeeds = λ c accepted cells d wp i same read n enough. let g = toStart (c .given) in
+          loops g (c .back .driver) (begun-numbers c) wp read n cells d
+          ∙ ap toldNumbers (Theorems.succeeds (g .part) (g .command) (g .address) (g .word) (g .p) (high wp) cells d accepted (i .whole) (i .rests) (i .heeded) same n read enough);
+      station-ends = λ c accepted wp f read n enough. let g = toStart (c .given) in let b = begun-numbers c in (
+        rw (means g (c .back .driver) b)
+            (Theorems.always-ends (g .part) (g .command) (g .address) (g .word) (g .p) accepted (high wp) f read n enough),
+        hears g (c .back .driver) b wp read n f,
+      );
     }

@@ -25,6 +25,10 @@ use Rattle.driver.specs.Machine.{valueWanted, begun, moved, ended, stepOf}
 use Rattle.driver.specs.Talk.{writeCycles, operationCycles, operationOf, completed, shownAfter, Told, told, talk, heard}
 use Rattle.driver.proofs.Theorems.{Ended}
 use Rattle.demands.specs.Calls.{BusCall, onBus, busLeft, refusedCycle, WritesCall, toWrite, refusedWrites, StartCall, ToStart, toStart, refusedStart, StepCall, toStep}
+use Rattle.station.specs.Machine.{driverOf, steppedOf}
+use Rattle.station.specs.Cycle.{high, deviceNumbers}
+use Rattle.station.specs.Loop.{toldNumbers, loop, heardNumbers, loopHearing}
+use Rattle.demands.specs.Controller.{StationBusCall, onStation, stationLeft, meant, StationStartCall}
 
 -- a chip of the part's number of cells that is idle, at a WP# level that does not protect what the command is aimed at
 pub record IdleUnprotected (part command address : ℕ) (cells : List ℕ) (d : Device) (wp : Bool) : Type 0 where
@@ -103,3 +107,28 @@ pub record Demand2 : Type 0 where
   -- are the same.
   pub low-bits-count : (c e : StepCall) → let g = toStep c in let h = toStep e in let w = rowOf (g .driver .part) .width in
       g .driver ≡ h .driver → valueOf w (g .read) ≡ valueOf w (h .read) → c .back ≡ e .back
+  -- A C controller's bus cycle that is not refused gives the same, as numbers, on the device that its numbers mean.
+  pub station-cycle-acts : (c : StationBusCall) → let g = meant (onStation c) in refusedCycle g ≡ 0
+      → let r = rowOf (g .part) in
+      let o = actedOf r (afterTime r (chip (g .cells) (g .device)) (g .cycle .elapsed)) (g .cycle .wp) (g .cycle .action) in
+      stationLeft c ≡ record { cells = o .cells; reply = record { answer = 0; value = o .reply .value; device = deviceNumbers (o .reply .device) } }
+  -- The cycles of a C controller that steps from its start on, sends each cycle that is named to the chip and gives what it
+  -- was shown to the next step (`loop`), start the operation asked for and no other; and it succeeds, as a driver does.
+  pub station-starts : (c : StationStartCall) → let g = toStart (c .given) in refusedStart g ≡ 0
+      → (cells : List ℕ) (d : Device) (wp : ℕ) → IdleUnprotected (g .part) (g .command) (g .address) cells d (high wp)
+      → (read n : ℕ) → writeCount (g .command) + polls g * 2 + 1 ≤ n
+      → startedIn (g .part) (chip cells d) (loop (g .part) wp n (steppedOf (c .back .driver) read) cells (deviceNumbers d) .cycles)
+      ≡ operationAsked g ∷ []
+  pub station-succeeds : (c : StationStartCall) → let g = toStart (c .given) in refusedStart g ≡ 0
+      → (cells : List ℕ) (d : Device) (wp : ℕ) → IdleUnprotected (g .part) (g .command) (g .address) cells d (high wp)
+      → shownAfter (rowOf (g .part)) (g .command) (g .address) (g .word) cells
+      ≡ valueWanted (rowOf (g .part)) (g .command) (g .word)
+      → (read n : ℕ) → writeCount (g .command) + polls g + 1 ≤ n
+      → loop (g .part) wp n (steppedOf (c .back .driver) read) cells (deviceNumbers d) ≡ toldNumbers (success g (high wp) cells)
+  -- Whatever is replied, it has ended after as many cycles as a driver: what it sent, and its last step, are the numbers of
+  -- one that `Ended` speaks of.
+  pub station-ends : (c : StationStartCall) → let g = toStart (c .given) in refusedStart g ≡ 0
+      → (wp : ℕ) (f : ℕ → ℕ) (read n : ℕ) → writeCount (g .command) + polls g * 2 + 1 ≤ n
+      → let h = heard (high wp) f n (stepOf (driverOf (c .back .driver)) read) in
+      Ended (g .part) (g .command) (g .address) (g .word) (g .p) (high wp) h
+      × (loopHearing wp f n (steppedOf (c .back .driver) read) ≡ heardNumbers h)

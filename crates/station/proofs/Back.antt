@@ -6,7 +6,7 @@ use mathlib.Core.List.{List}
 use native.Mathlib.Omega.{arith}
 use lib.Dec.{eqb, ltb}
 use lib.ListN.{length}
-use borrow.Author.Tests.{ne-eqb, lt-ltb, le-ltb}
+use borrow.Author.Tests.{eq-eqb, ne-eqb, lt-ltb, le-ltb}
 use Rattle.parts.specs.Names.{WRONG-CELLS, BAD-STATE}
 use Rattle.parts.specs.Pick.{_unless_, _else_, _orElse_}
 use Rattle.parts.specs.Width.{valueOf}
@@ -18,7 +18,9 @@ use Rattle.commands.specs.declared.effect.Mode.the-variants.{ReadMode, Identifi
 use Rattle.chip.specs.declared.device.Device.{Device}
 use Rattle.chip.specs.declared.cycle.Action.{Action}
 use Rattle.chip.specs.Device.{operation, core, device, stageInRange, deviceInRange}
-use Rattle.chip.specs.Cycle.{cycleOf, cycleRefusal}
+use Rattle.chip.specs.declared.cycle.Cycle.{Cycle}
+use Rattle.chip.specs.Cycle.{chip, afterTime, acceptedOf, cycleOf, cycleRefusal}
+use Rattle.chip.proofs.Cases.{acted-answers}
 use Rattle.driver.specs.declared.machine.Phase.{Phase}
 use Rattle.driver.specs.declared.machine.Phase.the-variants.{Writing, Polling, Confirming, Done, GaveUp, Differs}
 use Rattle.driver.specs.declared.machine.Driver.{Driver}
@@ -27,7 +29,7 @@ use Rattle.driver.specs.Machine.{driver, inRange, valueWanted, ended, matches, 
 use Rattle.station.specs.declared.machine.DriverNumbers.{DriverNumbers}
 use Rattle.station.specs.declared.cycle.DeviceNumbers.{DeviceNumbers}
 use Rattle.station.specs.Machine.{phaseNumber, phaseAt, driverNumbers, driverOf, nextNumbers, nextOf, stepNumbers, noDriverState, steppedOf}
-use Rattle.station.specs.Cycle.{deviceNumbers, deviceOf, noState, replyNumbers, cycledOf}
+use Rattle.station.specs.Cycle.{deviceNumbers, deviceOf, noState, replyNumbers, cycledNumbers}
 
 -- ---- the driver
 phase-back : (f : Phase) → phaseAt (phaseNumber f) ≡ f
@@ -133,8 +135,18 @@ pub no-device : (part lent : ℕ) (n : DeviceNumbers) (a : Action) → deviceOf 
 unfolding cycleRefusal deviceInRange stageInRange
 no-device part lent n a h = simp h
 
--- a refused cycle: its number, value 0, the numbers as they came, and no cell changed
-pub refused-numbers : (part : ℕ) (cells : List ℕ) (n : DeviceNumbers) (e wp : ℕ) (a : Action) (k : ℕ) → 0 < k → cycleRefusal part (length cells) (deviceOf n) a ≡ k
-    → cycledOf part cells n e wp a ≡ record { cells = cells; reply = record { answer = k; value = 0; device = n } }
-unfolding replyNumbers cycleOf
-refused-numbers part cells n e wp a k h r = simp (r, ne-eqb k 0 (λ z. omega arith), lt-ltb 0 k h)
+-- ---- a cycle on the device that the numbers mean
+module _ (part : ℕ) (cells : List ℕ) (n : DeviceNumbers) (c : Cycle) where
+  -- refused: its number, value 0, the numbers as they came, and no cell changed
+  pub refused-numbers : (k : ℕ) → 0 < k → cycleRefusal part (length cells) (deviceOf n) (c .action) ≡ k
+      → cycledNumbers n (cycleOf part cells (deviceOf n) c) ≡ record { cells = cells; reply = record { answer = k; value = 0; device = n } }
+  unfolding replyNumbers cycleOf
+  refused-numbers k h r = simp (r, ne-eqb k 0 (λ z. omega arith), lt-ltb 0 k h)
+
+  -- not refused: 0, and the numbers of the device that it leaves
+  pub taken-numbers : cycleRefusal part (length cells) (deviceOf n) (c .action) ≡ 0 → let o = acceptedOf (rowOf part) cells (deviceOf n) c in
+      cycledNumbers n (cycleOf part cells (deviceOf n) c)
+      ≡ record { cells = o .cells; reply = record { answer = 0; value = o .reply .value; device = deviceNumbers (o .reply .device) } }
+  unfolding replyNumbers cycleOf acceptedOf
+  taken-numbers z =
+      rw (eq-eqb (cycleRefusal part (length cells) (deviceOf n) (c .action)) 0 z, acted-answers (rowOf part) (afterTime (rowOf part) (chip cells (deviceOf n)) (c .elapsed)) (c .wp) (c .action))

@@ -186,16 +186,16 @@ fn start_numbers(s: Started) -> StartNumbers
 }
 
 // The numbers of a step.
-fn step_numbers(s: Step) -> StepNumbers
-    ensures { λ r. ⌜ r ≡ stepNumbers s ⌝ }
+fn step_numbers(t: Step) -> StepNumbers
+    ensures { λ r. ⌜ r ≡ stepNumbers t ⌝ }
 {
-    let d = s.driver;
-    let next = s.next;
+    let d = t.driver;
+    let next = t.next;
     StepNumbers {
-        answer: s.answer,
+        answer: t.answer,
         driver: driver_numbers(d),
         cycle: next_numbers(next),
-        polls: s.polls,
+        polls: t.polls,
     }
 }
 
