@@ -12,15 +12,20 @@
 /* Sectors on a line of the map. */
 #define ON_A_LINE 64
 
-/* The polling interval of the sectors' own jobs: what a sector gets is the same for any, and this one polls the least. */
-#define LONGEST_P 1000
-
-/* What the bill of a sector's own job says that it got. */
-static enum mark mark_of(const struct station_bill *bill)
+/* What a sector gets: the first cycles of its own job are sent, more and more of them until one has erased or programmed, or
+   until they are all. */
+static enum mark mark_of(const struct job *job, struct values *before, uint32_t first, const uint16_t *image)
 {
-    if (bill->erases > 0)
-        return MARK_ERASED;
-    return bill->programs > 0 ? MARK_CLEARED : MARK_SAME;
+    for (uint64_t most = 2 * job->sector + 8;; most *= 2) {
+        const struct station_report report = station_load_first(job->part, before->at, before->count, first, image,
+                                                                job->sector, job->wp, job->p, most);
+        if (report.erases > 0)
+            return MARK_ERASED;
+        if (report.programs > 0)
+            return MARK_CLEARED;
+        if (report.sent < most)
+            return MARK_SAME;
+    }
 }
 
 int make_map(const struct job *job, struct values *before, struct map *map)
@@ -33,9 +38,7 @@ int make_map(const struct job *job, struct values *before, struct map *map)
         return no_memory();
     for (size_t at = 0; at < job->image.count; at += job->sector) {
         const uint32_t first = job->first + (uint32_t)at;
-        const struct station_bill bill = station_load(job->part, before->at, before->count, first,
-                                                      job->image.at + at, job->sector, job->wp, LONGEST_P);
-        map->marks[first / job->sector] = (unsigned char)mark_of(&bill);
+        map->marks[first / job->sector] = (unsigned char)mark_of(job, before, first, job->image.at + at);
     }
     for (size_t i = 0; i < map->sectors; i++)
         map->count[map->marks[i]]++;

@@ -21,7 +21,7 @@ struct map {
 };
 
 /* Makes the map of a job that is taken. before are the cells as they were; they are used up. Each sector of the
-   range is loaded as a job of its own, and the bill of that says what it got. */
+   range is begun as a job of its own, and its counts say what the sector gets. */
 int make_map(const struct job *job, struct values *before, struct map *map);
 void free_map(struct map *map);
 
