@@ -137,12 +137,19 @@ int open_output(struct output *output, const char *path)
 
 int put_values(struct output *output, const struct values *values, uint32_t width)
 {
+    const size_t each = width == 16 ? 2 : 1;
+    uint8_t *bytes = (uint8_t *)malloc(values->count * each + 1);
+    if (bytes == NULL)
+        return cannot_write(output->path, strerror(ENOMEM));
     for (size_t i = 0; i < values->count; i++) {
-        putc(values->at[i] & 0xff, output->file);
-        if (width == 16)
-            putc(values->at[i] >> 8, output->file);
+        bytes[each * i] = (uint8_t)(values->at[i] & 0xff);
+        if (each == 2)
+            bytes[2 * i + 1] = (uint8_t)(values->at[i] >> 8);
     }
-    return ferror(output->file) ? cannot_write(output->path, strerror(errno)) : STATUS_DONE;
+    const bool written = fwrite(bytes, each, values->count, output->file) == values->count;
+    int why = errno;
+    free(bytes);
+    return written ? STATUS_DONE : cannot_write(output->path, strerror(why));
 }
 
 int end_output(struct output *output)
