@@ -10,9 +10,9 @@ use lib.ListN.{length, List·getD-eq-default}
 use Rattle.parts.specs.Pick.{pick}
 use Rattle.parts.specs.Width.{valueOf}
 use Rattle.parts.specs.Table.{noLine, lines, lineOf, rowFrom, rowOf, partRefusal, foundOf}
-use Rattle.parts.specs.Figures.{figure, figureRefusal, figureOf}
+use Rattle.table.specs.Figures.{figure, figureRefusal, figureOf}
 use Rattle.parts.specs.declared.table.Row.{Row}
-use Rattle.parts.specs.declared.figure.Figure.{Figure}
+use Rattle.table.specs.declared.figure.Figure.{Figure}
 use Rattle.parts.specs.declared.table.Found.{Found}
 use Rattle.parts.proofs.Every.{split}
 use Rattle.chip.specs.Cycle.{chip, Outcome, afterTime, acceptedOf, cycleOf}

@@ -11,11 +11,11 @@ use borrow.Fn.Kinds.{PK, RK, Out, Dens, endedOf, resT}
 use denote.Triple.Clauses.{AtExit}
 use Rattle.parts.specs.Names.{BAD-FILE}
 use Rattle.parts.specs.Pick.{pick, _when_, _else_}
-use Rattle.parts.specs.Figures.{figureRefusal}
-use Rattle.parts.proofs.part_row.Kinds as row-kinds
-use Rattle.parts.proofs.part_row.Reads as row-reads
-use Rattle.parts.proofs.part_figure.Kinds as figure-kinds
-use Rattle.parts.proofs.part_figure.Reads as figure-reads
+use Rattle.table.specs.Figures.{figureRefusal}
+use Rattle.table.proofs.part_row.Kinds as row-kinds
+use Rattle.table.proofs.part_row.Reads as row-reads
+use Rattle.table.proofs.part_figure.Kinds as figure-kinds
+use Rattle.table.proofs.part_figure.Reads as figure-reads
 use Rattle.chip.specs.declared.device.Device.{Device}
 use Rattle.chip.specs.declared.cycle.Cycle.{Cycle}
 use Rattle.chip.specs.Cycle.{Outcome, cycleRefusal}

@@ -9,8 +9,8 @@ use mathlib.Core.List.{[]}
 use Rattle.parts.specs.Names.{BAD-STATE, BAD-FILE}
 use Rattle.parts.specs.Pick.{_when_, _else_}
 use Rattle.parts.specs.Table.{noLine, rowFrom, partRefusal}
-use Rattle.parts.specs.Figures.{figure}
-use Rattle.parts.specs.declared.figure.Figure.{Figure}
+use Rattle.table.specs.Figures.{figure}
+use Rattle.table.specs.declared.figure.Figure.{Figure}
 use Rattle.parts.specs.declared.table.Found.{Found}
 use Rattle.chip.specs.Cycle.{Outcome, reply}
 use Rattle.driver.specs.declared.machine.Started.{Started}

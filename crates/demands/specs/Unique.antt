@@ -13,10 +13,10 @@ use Rattle.parts.proofs.blank.Kinds as blank-kinds
 use Rattle.parts.proofs.blank.Reads as blank-reads
 use Rattle.parts.proofs.fits.Kinds as fits-kinds
 use Rattle.parts.proofs.fits.Reads as fits-reads
-use Rattle.parts.proofs.part_row.Kinds as part-row-kinds
-use Rattle.parts.proofs.part_row.Reads as part-row-reads
-use Rattle.parts.proofs.part_figure.Kinds as part-figure-kinds
-use Rattle.parts.proofs.part_figure.Reads as part-figure-reads
+use Rattle.table.proofs.part_row.Kinds as part-row-kinds
+use Rattle.table.proofs.part_row.Reads as part-row-reads
+use Rattle.table.proofs.part_figure.Kinds as part-figure-kinds
+use Rattle.table.proofs.part_figure.Reads as part-figure-reads
 use Rattle.parts.proofs.span.Span.holds.Kinds as span-holds-kinds
 use Rattle.parts.proofs.span.Span.holds.Reads as span-holds-reads
 use Rattle.parts.proofs.table.Row.sector_size.Kinds as sector-size-kinds

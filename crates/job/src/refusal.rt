@@ -98,7 +98,7 @@ pub(crate) fn job_refusal(
 ) -> u32
     ensures { λ r. ⌜ r ≡ jobRefusal part lent first (now (image .entry)) wp p ⌝ }
 {
-    let found = parts::part_row(part);
+    let found = table::part_row(part);
     let answer = found.answer;
     if 0 < answer {
         return answer;

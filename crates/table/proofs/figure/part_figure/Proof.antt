@@ -1,13 +1,13 @@
--- `parts::figure::part_figure` meets its contract.
+-- `table::figure::part_figure` meets its contract.
 use mathlib.Core.Path.{ap, sym}
 use lib.ListN.{getD}
 use native.Mathlib.Omega.{arith}
 use borrow.Author.Tests.{lt-ltb, le-ltb, ne-eqb}
 use borrow.Author.Needs.{needs}
-use Rattle.parts.specs.Figures.{columns, figure, figureOf}
+use Rattle.table.specs.Figures.{columns, figure, figureOf}
 use Rattle.parts.specs.declared.table.Found.{Found}
-use Rattle.parts.proofs.figure.part_figure.Statement.{statement}
-use Rattle.parts.proofs.figure.part_figure.Tie as tie
+use Rattle.table.proofs.figure.part_figure.Statement.{statement}
+use Rattle.table.proofs.figure.part_figure.Tie as tie
 
 returns : tie.Need-returns
 unfolding figureOf

@@ -1,8 +1,8 @@
 // The figures of the part table.
-use crate::names::NO_ENTRY;
 use crate::part_row;
+use parts::names::NO_ENTRY;
 ghost use mathlib.Core.Path.{_≡_};
-ghost use Rattle.parts.specs.Figures.{figure, figureOf};
+ghost use Rattle.table.specs.Figures.{figure, figureOf};
 
 // A figure: 0 or the refusal, and the number.
 pub struct Figure {

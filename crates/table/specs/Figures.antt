@@ -3,11 +3,11 @@ use Prim.Native.Nat.{ℕ}
 use mathlib.Core.List.{List, [], _∷_}
 use lib.Dec.{eqb, ltb}
 use lib.ListN.{getD}
 use Rattle.parts.specs.Names.{NO-ENTRY}
 use Rattle.parts.specs.Pick.{pick, _when_, _else_, _orElse_}
 use Rattle.parts.specs.Table.{rowOf, partRefusal}
 use Rattle.parts.specs.declared.table.Row.{Row}
-use Rattle.parts.specs.declared.figure.Figure.{Figure}
+use Rattle.table.specs.declared.figure.Figure.{Figure}
 
 abbrev pub figure : ℕ → ℕ → Figure
 figure n v = record { answer = n; value = v }

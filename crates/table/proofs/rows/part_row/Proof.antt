@@ -1,13 +1,13 @@
--- `parts::table::part_row` meets its contract.
+-- `table::rows::part_row` meets its contract.
 use Prim.Native.Nat.{_≤_}
 use mathlib.Core.Path.{sym}
 use native.Mathlib.Omega.{arith}
 use lib.ListN.{List·getD-eq-default}
 use borrow.Author.Tests.{lt-ltb, le-ltb}
 use borrow.Author.Needs.{needs}
 use Rattle.parts.specs.Table.{lines, noLine, rowOf, partRefusal}
-use Rattle.parts.proofs.table.part_row.Statement.{statement}
-use Rattle.parts.proofs.table.part_row.Tie as tie
+use Rattle.table.proofs.rows.part_row.Statement.{statement}
+use Rattle.table.proofs.rows.part_row.Tie as tie
 
 returns : tie.Need-returns
 unfolding rowOf partRefusal
