@@ -21,7 +21,7 @@ use Rattle.driver.specs.Writes.{writesOf, writeCount}
 use Rattle.driver.specs.Machine.{addressOf, confirmAfter}
 use Rattle.driver.specs.Talk.{writeCycles, operationOf, completed}
 use Rattle.driver.specs.Reads.{Scans, Polls, Confirms, Place, ARead, NoRead, placesIn}
-use Rattle.driver.specs.Refusals.{startRefusal}
+use Rattle.driver.specs.Refusals.{commandRefusal, startRefusal}
 use Rattle.driver.proofs.Asked.{asking, begun}
 use Rattle.driver.proofs.Theorems.{writes-start, last-write-starts, placed as operation-placed}
 use Rattle.job.specs.declared.loader.Job.{Job}
@@ -117,6 +117,9 @@ module _ (j : Job) (command a x : ℕ) (few : command ≤ 1) (row : j .row ≡ r
   abbrev n : ℕ
   n = pollsOf (rowOf (j .part)) command (j .p)
 
+  asks : commandRefusal (j .part) command a x ≡ 0
+  asks = asking (j .part) command a x (begun (j .part) command a x (j .p) accepted .asked)
+
   listed : cyclesIn (operated j command a x)
       ≡ writeCycles (j .wp) (writesOf (rowOf (j .part)) command a x)
       ++ (replicate (pollsOf (rowOf (j .part)) command (j .p)) (cycle (j .p) (j .wp) (Read a)) ++ (cycle confirmAfter (j .wp) (Read a) ∷ []))
@@ -126,7 +129,7 @@ module _ (j : Job) (command a x : ℕ) (few : command ≤ 1) (row : j .row ≡ r
   operated-begun =
       let r = rowOf (j .part) in
       let ws = writeCycles (j .wp) (writesOf r command a x) in
-      let s = writes-start (j .part) command a x (j .wp) (w .cells) (w .held .device) (asking (j .part) command a x (begun (j .part) command a x (j .p) accepted .asked)) whole rests heeded in
+      let s = writes-start (j .part) command a x (j .wp) (w .cells) (w .held .device) asks whole rests heeded in
       ap (startedIn (j .part) (chipOf w)) listed
       ∙ (started-append (j .part) (chipOf w) ws _
       ∙ ap₂ {A = List Operation} {B = List Operation} {C = List Operation} (λ x y. x ++ y) (s .1)
@@ -162,6 +165,7 @@ module _ (j : Job) (command a x : ℕ) (few : command ≤ 1) (row : j .row ≡ r
       )
       (rw plain at (operation-placed (j .part) command a x (j .p) (j .wp) (w .cells) (w .held .device) accepted whole rests heeded cs))
 
+  -- each of them is what it is counted and told as
   polls-apiece : (m : ℕ) (v : World) → Apiece (j .part) v (replicate m (sent Poll (cycle (j .p) (j .wp) (Read a))) ++ (sent Confirm (cycle confirmAfter (j .wp) (Read a)) ∷ []))
   polls-apiece zero v = (read-piece (j .part) (chipOf v) Confirm confirmAfter (j .wp) a refl refl, tt)
   polls-apiece (suc m) v = (read-piece (j .part) (chipOf v) Poll (j .p) (j .wp) a refl refl, polls-apiece m _)
@@ -172,7 +176,7 @@ module _ (j : Job) (command a x : ℕ) (few : command ≤ 1) (row : j .row ≡ r
       rw row
       (apiece-append (j .part) w (writesSent (j .wp) command (writesOf (rowOf (j .part)) command a x)) _
       (apiece-writes (j .part) (j .wp) command (writesOf (rowOf (j .part)) command a x) o few refl w
-      (last-write-starts (j .part) command a x (j .wp) (w .cells) (w .held .device) (asking (j .part) command a x (begun (j .part) command a x (j .p) accepted .asked)) whole rests heeded))
+      (last-write-starts (j .part) command a x (j .wp) (w .cells) (w .held .device) asks whole rests heeded))
       (polls-apiece n _))
 
   pub starts-operated : Starts (j .part) w (operated j command a x) (o ∷ [])

@@ -72,7 +72,7 @@ firstSent part cells first image wp p k = take k (sentCycles part cells first im
 pub record Partly (part : ℕ) (cells : List ℕ) (first : ℕ) (image : List ℕ) (wp : Bool) (p k : ℕ) (l : Reported) : Type 0 where
   -- the cells are what these cycles leave, played from a fresh device on
   pub played : l .cells ≡ play part (chip cells freshDevice) (firstSent part cells first image wp p k) .cells
-  -- the last cycle is the last of them, zeros for none; the reply is what it shows on the chip that those before it leave, 0 for none
+  -- the last cycle is the last of them, the k-th unless there are fewer; the reply is what it shows on the chip that those before it leave; zeros for none
   pub last : toldLast (l .report .last) ≡ lastIn (firstSent part cells first image wp p k)
   pub zeros : firstSent part cells first image wp p k ≡ [] → l .report .last ≡ record { kind = 0; elapsed = 0; wp = false; address = 0; «data» = 0 }
   pub reply : l .report .reply ≡ lastShown part (chip cells freshDevice) (firstSent part cells first image wp p k)
