@@ -39,8 +39,9 @@ pub record Demand3 : Type 0 where
   pub job-is-a-rival : (c : LoadCall) → let j = toLoad c in refusedJob j ≡ 0
       → Rival (j .part) (j .cells) (j .first) (j .image) freshDevice
       (sentCycles (j .part) (j .cells) (j .first) (j .image) (j .wp) (j .p))
-  -- The second call leaves the cells as the first k of the job's bus cycles leave them, all if fewer; and its polls, reads
-  -- and time are those of these cycles.
+  -- The second call leaves the cells as the first k of the job's bus cycles leave them, all if fewer; its last cycle is the
+  -- last of these, zeros for none, and its reply what that one shows; its erases and programs are the operations that these
+  -- cycles start, and its polls, scans, confirming reads and time are theirs. The lines of `Partly` say each of these.
   pub load-first-plays : (c : LoadFirstCall) → let j = toLoadFirst c .job in refusedJob j ≡ 0
       → Partly (j .part) (j .cells) (j .first) (j .image) (j .wp) (j .p) (toLoadFirst c .k) (loadFirstLeft c)
   -- A job file's bill is that of the job that it asks for, on a blank bench part.

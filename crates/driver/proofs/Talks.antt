@@ -32,6 +32,7 @@ use Rattle.chip.specs.Trace.{leaves, after, play, startedBy, startedIn}
 use Rattle.chip.proofs.Accepted.{Valid, inside-cells}
 use Rattle.chip.proofs.Settled.{complete-length}
 use Rattle.chip.proofs.Idle.{idle-rests, idle-again}
+use Rattle.chip.proofs.Started.{last-starts-all, Leads}
 use Rattle.chip.proofs.Cases.{read-idle, read-busy, read-done}
 use Rattle.commands.specs.declared.write.Write.{Write}
 use Rattle.driver.specs.declared.machine.Phase.{Phase}
@@ -384,11 +385,17 @@ module _ (b : Driver) (accepted : startRefusal (b .part) (b .command) (b .addres
 
     -- ---- from an idle core, at a WP# level that does not protect
     module _ (heeded : ignored r wp (b .command) (b .address) ≡ false) where
-      played : play (b .part) (chip cells (device core 0)) writeList ≡ chip cells (device (busyWith core (operationOf r (b .command) (b .address) (b .«data»))) 0)
-      played = command-leads (b .part) known cells whole wp core (idle-rests core idles) (b .command) (b .address) (b .«data») (valid .asked .target) heeded .played
+      abbrev o : Operation
+      o = operationOf r (b .command) (b .address) (b .«data»)
 
-      starting : startedIn (b .part) (chip cells (device core 0)) writeList ≡ operationOf r (b .command) (b .address) (b .«data») ∷ []
-      starting = command-leads (b .part) known cells whole wp core (idle-rests core idles) (b .command) (b .address) (b .«data») (valid .asked .target) heeded .begun
+      leads : Leads (b .part) (chip cells (device core 0)) writeList (chip cells (device (busyWith core o) 0)) (o ∷ [])
+      leads = command-leads (b .part) known cells whole wp core (idle-rests core idles) (b .command) (b .address) (b .«data») (valid .asked .target) heeded
+
+      played : play (b .part) (chip cells (device core 0)) writeList ≡ chip cells (device (busyWith core o) 0)
+      played = leads .played
+
+      starting : startedIn (b .part) (chip cells (device core 0)) writeList ≡ o ∷ []
+      starting = last-starts-all (b .part) (chip cells (device core 0)) writeList (o ∷ []) (leads .last)
 
       -- all of its cycles by their places: no reads, N polls, the confirming read
       pub placed : (cs : List Cycle) → placesIn (b .part) Scans (chip cells (device core 0)) (writeList ++ (replicate turns poll ++ (cycle confirmAfter wp (Read at) ∷ cs)))

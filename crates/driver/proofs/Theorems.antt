@@ -14,6 +14,7 @@ use Rattle.parts.specs.Table.{rowOf}
 use Rattle.parts.specs.Time.{pollsOf}
 use Rattle.parts.specs.declared.table.Row.{Row}
 use Rattle.chip.specs.declared.device.Device.{Device}
+use Rattle.chip.specs.declared.device.Operation.{Operation}
 use Rattle.chip.specs.declared.cycle.Action.the-variants.{Read}
 use Rattle.chip.specs.declared.cycle.Cycle.{Cycle}
 use Rattle.chip.specs.Device.{busyWith, device, freshDevice, coreIdle, idle}
@@ -35,6 +36,7 @@ use Rattle.driver.proofs.Steps.{most, StepInRange, kept, few-polls, fal
 use Rattle.driver.proofs.Named.{namedIn, namedBy, names, asCycle, cycles-are, cycles-few}
 use Rattle.driver.proofs.Within.{over, stands}
 use Rattle.chip.proofs.Idle.{idle-is, idle-rests}
+use Rattle.chip.proofs.Started.{LastStarts, last-starts-all, Leads}
 use Rattle.driver.proofs.Commands.{command-leads}
 use Rattle.driver.proofs.Begins.{start-is, few-commands, kept-accepted, start-range, kept-address, kept-bit, kept-value, kept-last, kept-writes, kept-heeded}
 use Rattle.driver.proofs.Talks as Talks
@@ -42,20 +44,32 @@ use Rattle.driver.proofs.Shown as Shown
 
 -- ---- D1: a command's writes on the model
 -- On the lent cells of a part, from any idle device, at a WP# level under which the command is not ignored, the writes of an accepted command leave the cells
--- as they were and the device running exactly that operation, with its whole table time left; and it is the one operation that they start.
-pub writes-start : (part command address word : ℕ) (wp : Bool) (cells : List ℕ) (d : Device)
-    → commandRefusal part command address word ≡ 0
-    → length cells ≡ rowOf part .cells
-    → idle d ≡ true
-    → ignored (rowOf part) wp command address ≡ false
-    → (play part (chip cells d) (writeCycles wp (writesOf (rowOf part) command address word)) ≡ chip cells (device (busyWith (d .core) (operationOf (rowOf part) command address word)) 0))
-    × (startedIn part (chip cells d) (writeCycles wp (writesOf (rowOf part) command address word)) ≡ operationOf (rowOf part) command address word ∷ [])
-writes-start part command address word wp cells d accepted whole rest heeded =
-    let w = Asked.asked part command address word accepted in
-    let i = idle-is d rest in
-    let cs = writeCycles wp (writesOf (rowOf part) command address word) in
-    let l = command-leads part (w .known) cells whole wp (d .core) (idle-rests (d .core) (i .1)) command address word (w .target) heeded in
-    (ap (λ (d : Device). play part (chip cells d) cs) (i .0) ∙ l .played, ap (λ (d : Device). startedIn part (chip cells d) cs) (i .0) ∙ l .begun)
+-- as they were and the device running exactly that operation, with its whole table time left.
+module _ (part command address word : ℕ) (wp : Bool) (cells : List ℕ) (d : Device)
+    (accepted : commandRefusal part command address word ≡ 0)
+    (whole : length cells ≡ rowOf part .cells)
+    (rest : idle d ≡ true)
+    (heeded : ignored (rowOf part) wp command address ≡ false) where
+  -- the writes; the operation
+  abbrev cs : List Cycle
+  cs = writeCycles wp (writesOf (rowOf part) command address word)
+
+  abbrev o : Operation
+  o = operationOf (rowOf part) command address word
+
+  leads : Leads part (chip cells d) cs (chip cells (device (busyWith (d .core) o) 0)) (o ∷ [])
+  leads =
+      let w = Asked.asked part command address word accepted in
+      let i = idle-is d rest in
+      rw (i .0) (command-leads part (w .known) cells whole wp (d .core) (idle-rests (d .core) (i .1)) command address word (w .target) heeded)
+
+  -- The last of them starts it, and those before start nothing.
+  pub last-write-starts : LastStarts part (chip cells d) cs (o ∷ [])
+  last-write-starts = leads .last
+
+  -- So it is the one operation that they start.
+  pub writes-start : (play part (chip cells d) cs ≡ chip cells (device (busyWith (d .core) o) 0)) × (startedIn part (chip cells d) cs ≡ o ∷ [])
+  writes-start = (leads .played, last-starts-all part (chip cells d) cs (o ∷ []) last-write-starts)
 
 -- ---- D2: a started driver against the model
 -- On the lent cells of a part, from any idle device, at a WP# level under which the command is not ignored.

@@ -1,5 +1,6 @@
 pub mod Listed
 pub mod Placed
+pub mod Apiece
 pub mod Starts
 pub mod Bits
 pub mod Image
