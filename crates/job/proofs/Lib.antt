@@ -13,3 +13,4 @@ pub mod Billing
 pub mod Counts
 pub mod Determined
 pub mod Sentences
+pub mod BySector
