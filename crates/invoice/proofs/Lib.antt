@@ -6,5 +6,6 @@ pub mod Bits
 pub mod Image
 pub mod Least
 pub mod Billed
+pub mod Alone
 pub mod Loads
 pub mod ByKind

@@ -1,8 +1,8 @@
 -- What the customer pays for: what is said of every accepted job.
-use Prim.Native.Nat.{ℕ, _+_, _*_, _/_, _≤_, _<_}
+use Prim.Native.Nat.{ℕ, zero, suc, _+_, _*_, _/_, _≤_, _<_}
 use mathlib.Core.Path.{_≡_}
 use mathlib.Core.Bool.{Bool, true, false}
-use mathlib.Core.List.{List, []}
+use mathlib.Core.List.{List, [], _++_}
 use lib.ListN.{length, getD, take, drop}
 use Rattle.parts.specs.Names.{PROGRAM, SECTOR, BLOCK, CHIP}
 use Rattle.parts.specs.Width.{valueOf, sectorSize}
@@ -23,6 +23,13 @@ use Rattle.invoice.specs.Started.{cyclesIn, timeIn, lastIn, lastShown, t
 -- the job's bus cycles
 abbrev pub sentCycles : ℕ → List ℕ → ℕ → List ℕ → Bool → ℕ → List Cycle
 sentCycles part cells first image wp p = cyclesIn (sentOf (jobFrom part first (length image) wp p) image cells)
+
+-- the bus cycles of n jobs of one sector each, from first on, every one on the same cells
+abbrev pub sectorsAlone : ℕ → List ℕ → Bool → ℕ → ℕ → ℕ → List ℕ → List Cycle
+sectorsAlone part cells wp p zero first image = []
+sectorsAlone part cells wp p (suc n) first image =
+    sentCycles part cells first (take (sectorSize (rowOf part .width)) image) wp p
+    ++ sectorsAlone part cells wp p n (first + sectorSize (rowOf part .width)) (drop (sectorSize (rowOf part .width)) image)
 
 -- the operations that they start, from a fresh device on
 abbrev pub started : ℕ → List ℕ → ℕ → List ℕ → Bool → ℕ → List Operation
