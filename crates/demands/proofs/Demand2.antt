@@ -68,7 +68,7 @@ begins-once part command address word wp cells d cs ds m e at o q one none =
 -- a started driver's cycles start the operation asked for: it polls N times where the cell shows the wanted bit 7, else it gives up
 starts : (g : ToStart) → refusedStart g ≡ 0 → (cells : List ℕ) (d : Device) (wp : Bool) → IdleUnprotected (g .part) (g .command) (g .address) cells d wp
     → (read n : ℕ) → writeCount (g .command) + polls g * 2 + 1 ≤ n
-    → startedIn (g .part) (chip cells d) (talk (g .part) wp n (stepOf (startOf (g .part) (g .command) (g .address) (g .word) (g .p) .driver) read) (chip cells d) .cycles)
+    → startedIn (g .part) (chip cells d) (talk stepOf (g .part) wp n (stepOf (startOf (g .part) (g .command) (g .address) (g .word) (g .p) .driver) read) (chip cells d) .cycles)
     ≡ operationAsked g ∷ []
 starts g accepted cells d wp i read n enough = by (eqb (bitSeven shown) (bitWanted command word)) refl
   where
@@ -93,7 +93,7 @@ starts g accepted cells d wp i read n enough = by (eqb (bitSeven shown) (bitWant
         (i .whole) (i .rests) (i .heeded) .1
 
     by : (t : Bool) → eqb (bitSeven shown) (bitWanted command word) ≡ t
-        → startedIn part (chip cells d) (talk part wp n (stepOf (startOf part command address word (g .p) .driver) read) (chip cells d) .cycles) ≡ operationAsked g ∷ []
+        → startedIn part (chip cells d) (talk stepOf part wp n (stepOf (startOf part command address word (g .p) .driver) read) (chip cells d) .cycles) ≡ operationAsked g ∷ []
     by true t =
         begins-once part command address word wp cells d _ (cycle confirmAfter wp (Read (addressOf command address)) ∷ []) (polls g) (g .p) (addressOf command address) (operationAsked g)
         (ap (λ (t : Told). t .cycles)
