@@ -35,7 +35,7 @@ use Rattle.driver.specs.Talk.{Stepping, AsSaid, writeCycles, shownAfter, Told, 
 use Rattle.driver.proofs.Asked.{asking, begun}
 use Rattle.driver.proofs.Theorems as Theorems
 use Rattle.demands.specs.Calls.{onBus, refusedCycle, toWrite, StepCall, ToStep, toStep, AsPromised}
-use Rattle.demands.specs.Demand2.{IdleUnprotected, Stepped, asked, operationAsked, polls, ChipFor, firstStep, talked, noRead, Demand2}
+use Rattle.demands.specs.Demand2.{IdleUnprotected, Stepped, asked, operationAsked, polls, cyclesAtMost, ChipFor, firstStep, talked, noRead, Demand2}
 
 -- ---- a command's writes together
 -- the first count of six places are the writes
@@ -69,6 +69,10 @@ begins-once part command address word wp cells d cs ds m e at o q one none =
 -- a function that steps as promised gives what the definition says
 as-said : (steps : Stepping) → AsPromised steps → AsSaid steps
 as-said steps w d v t = sym (w .handed d v t) ∙ (w .call d v t .promise ∙ ap (λ (g : ToStep). stepOf (g .driver) (g .read)) (w .gave d v t))
+
+-- and the definition is such a function
+abbrev stepped : Driver → ℕ → StepCall
+stepped d v = record { lifetimes = tt; given = (d, (v, tt)); back = stepOf d v; ends = (d, (v, tt)); promise = refl }
 
 -- the first step is one of the state that the definition says
 first-is : (s : Stepped) → let g = asked s in firstStep s ≡ s .steps (startOf (g .part) (g .command) (g .address) (g .word) (g .p) .driver) (s .read)
@@ -104,7 +108,7 @@ module _ (s : Stepped) (h : ChipFor (asked s)) where
       Theorems.writes-start part command address word (h .wp) (h .cells) (h .device) (asking part command address word (begun part command address word p (s .accepted) .asked))
       (i .whole) (i .rests) (i .heeded) .1
 
-  starts : (n : ℕ) → writeCount command + polls (asked s) * 2 + 1 ≤ n → startedIn part (chip (h .cells) (h .device)) (talked s h n .cycles) ≡ operationAsked (asked s) ∷ []
+  starts : (n : ℕ) → cyclesAtMost (asked s) ≤ n → startedIn part (chip (h .cells) (h .device)) (talked s h n .cycles) ≡ operationAsked (asked s) ∷ []
   starts n enough = by (eqb (bitSeven shown) (bitWanted command word)) refl
     where
       shown : ℕ
@@ -213,6 +217,7 @@ demand-2 =
       driver-means = λ s wp f words n enough. let g = asked s in
           rw (first-is s)
           (Theorems.means (g .part) (g .command) (g .address) (g .word) (g .p) (s .accepted) wp (s .steps) (as-said (s .steps) (s .promised)) f words (s .read) (s .word) n enough);
+      definition-is-promised = record { call = λ d v t. stepped d v; gave = λ d v t. refl; handed = λ d v t. refl };
       value-ignored = λ c e same none. let d = toStep c .driver in let u = toStep c .read in let v = toStep e .read in
           same-step c e same (in-range d u v (λ _. ignores d u v (d .phase) none));
       low-bits-count = λ c e same alike. let d = toStep c .driver in let u = toStep c .read in let v = toStep e .read in

@@ -1,7 +1,7 @@
 -- Demand 2. Model and driver agree with the data sheets as document 01 states them: each cycle gives the stated value,
 -- state and cells; each command that the driver issues to an idle, unprotected chip starts that operation and no other. And
--- the driver answers after a stated number of cycles, whatever the chip replies; and takes of the value that it is given
--- what document 01 says.
+-- the driver answers after a stated number of cycles, whatever the chip replies, and by a number that says what was replied;
+-- and takes of the value that it is given what document 01 says.
 use Prim.Native.Nat.{ℕ, _+_, _*_, _^_, _≤_, _<_}
 use mathlib.Core.Path.{_≡_}
 use mathlib.Core.Bool.{Bool, true, false}
@@ -23,7 +23,7 @@ use Rattle.driver.specs.declared.machine.Phase.{Phase}
 use Rattle.driver.specs.declared.machine.Phase.the-variants.{Writing, Polling, Confirming, Done, GaveUp, Differs}
 use Rattle.driver.specs.declared.machine.Step.{Step}
 use Rattle.driver.specs.Writes.{writeCount}
-use Rattle.driver.specs.Machine.{valueWanted, begun, moved, ended}
+use Rattle.driver.specs.Machine.{valueWanted, begun, moved, ended, stepOf}
 use Rattle.driver.specs.Talk.{Stepping, writeCycles, operationCycles, operationOf, completed, shownAfter, Told, told, talk, heard}
 use Rattle.driver.specs.Endings.{MustRaise, MustRaiseSeven, Ended, Meaning}
 use Rattle.demands.specs.Calls.{BusCall, onBus, busLeft, refusedCycle, WritesCall, toWrite, refusedWrites, StartCall, ToStart, toStart, refusedStart, StepCall, toStep, AsPromised}
@@ -34,7 +34,7 @@ pub record IdleUnprotected (part command address : ℕ) (cells : List ℕ) (d : 
   pub rests : idle d ≡ true
   pub heeded : ignored (rowOf part) wp command address ≡ false
 
--- ---- a driver
+-- ---- a driver, by any function that the promise of its step allows
 -- its start was not refused, and it is stepped on by a function as promised, whatever word was read before
 pub record Stepped : Type 0 where
   pub start : StartCall
@@ -58,6 +58,14 @@ operationAsked g = operationOf (rowOf (g .part)) (g .command) (g .address) (g .w
 -- N
 abbrev pub polls : ToStart → ℕ
 polls g = pollsOf (rowOf (g .part)) (g .command) (g .p)
+
+-- the cycles that it sends at most: its writes, 6 or for a program 4, 2N polls and one confirming read
+abbrev pub cyclesAtMost : ToStart → ℕ
+cyclesAtMost g = writeCount (g .command) + polls g * 2 + 1
+
+-- and where it polls N times
+abbrev pub cyclesAfterN : ToStart → ℕ
+cyclesAfterN g = writeCount (g .command) + polls g + 1
 
 -- an idle, unprotected chip of its part
 pub record ChipFor (g : ToStart) : Type 0 where
@@ -111,37 +119,39 @@ pub record Demand2 : Type 0 where
       ≡ operationOf (rowOf (g .part)) (g .command) (g .address) (g .word) ∷ []
   -- The cycles that a started driver names start the operation asked for and no other, whatever the cells hold.
   pub driver-starts : (s : Stepped) → let g = asked s in (h : ChipFor g)
-      → (n : ℕ) → writeCount (g .command) + polls g * 2 + 1 ≤ n
+      → (n : ℕ) → cyclesAtMost g ≤ n
       → startedIn (g .part) (chip (h .cells) (h .device)) (talked s h n .cycles) ≡ operationAsked g ∷ []
   -- There, where the cell shows the wanted value once the operation has completed, it ends with 0 after N polls:
   pub driver-succeeds : (s : Stepped) → let g = asked s in (h : ChipFor g)
       → shownAfter (rowOf (g .part)) (g .command) (g .address) (g .word) (h .cells)
       ≡ valueWanted (rowOf (g .part)) (g .command) (g .word)
-      → (n : ℕ) → writeCount (g .command) + polls g + 1 ≤ n → talked s h n ≡ endedWith g h (polls g) Done
+      → (n : ℕ) → cyclesAfterN g ≤ n → talked s h n ≡ endedWith g h (polls g) Done
   -- after every erase,
   pub driver-erases : (s : Stepped) → let g = asked s in (h : ChipFor g) → (g .command ≡ PROGRAM → ⊥)
-      → (n : ℕ) → writeCount (g .command) + polls g + 1 ≤ n → talked s h n ≡ endedWith g h (polls g) Done
+      → (n : ℕ) → cyclesAfterN g ≤ n → talked s h n ≡ endedWith g h (polls g) Done
   -- and after a program that has no bit to raise.
   pub driver-programs : (s : Stepped) → let g = asked s in (h : ChipFor g) → g .command ≡ PROGRAM
       → bitAnd (oldValue g h) (g .word) ≡ g .word
-      → (n : ℕ) → writeCount (g .command) + polls g + 1 ≤ n → talked s h n ≡ endedWith g h (polls g) Done
+      → (n : ℕ) → cyclesAfterN g ≤ n → talked s h n ≡ endedWith g h (polls g) Done
   -- A program that would have to raise bits, but not bit 7, ends with 12 after N polls,
   pub driver-differs : (s : Stepped) → let g = asked s in (h : ChipFor g) → g .command ≡ PROGRAM
       → MustRaise (oldValue g h) (g .word) → (MustRaiseSeven (oldValue g h) (g .word) → ⊥)
-      → (n : ℕ) → writeCount (g .command) + polls g + 1 ≤ n → talked s h n ≡ endedWith g h (polls g) Differs
+      → (n : ℕ) → cyclesAfterN g ≤ n → talked s h n ≡ endedWith g h (polls g) Differs
   -- and one that would have to raise bit 7 with 11 after 2N polls.
   pub driver-gives-up : (s : Stepped) → let g = asked s in (h : ChipFor g) → g .command ≡ PROGRAM
       → MustRaiseSeven (oldValue g h) (g .word)
       → (n : ℕ) → writeCount (g .command) + polls g * 2 ≤ n → talked s h n ≡ endedWith g h (polls g * 2) GaveUp
-  -- Whatever words are replied (f), a dead chip's constant among it, a started driver has ended after 6 + 2N + 1 cycles, 4 +
-  -- 2N + 1 for a program: `Ended` says how,
+  -- Whatever words are replied (f), a dead chip's constant among them, a started driver has ended after 6 + 2N + 1 cycles, 4
+  -- + 2N + 1 for a program: `Ended` says how,
   pub driver-ends : (s : Stepped) → let g = asked s in (wp : Bool) (f : ℕ → ℕ) → ((i : ℕ) → f i < 2 ^ 16)
-      → (n : ℕ) → writeCount (g .command) + polls g * 2 + 1 ≤ n
+      → (n : ℕ) → cyclesAtMost g ≤ n
       → Ended (s .steps) (g .part) (g .command) (g .address) (g .word) (g .p) wp (heard (s .steps) wp f n (firstStep s))
-  -- and `Meaning` what 0, 11 and 12 say of the replies, each exactly then.
+  -- and `Meaning` what 0, 11 and 12 say of the replies, each given exactly then.
   pub driver-means : (s : Stepped) → let g = asked s in (wp : Bool) (f : ℕ → ℕ) → ((i : ℕ) → f i < 2 ^ 16)
-      → (n : ℕ) → writeCount (g .command) + polls g * 2 + 1 ≤ n
+      → (n : ℕ) → cyclesAtMost g ≤ n
       → Meaning (rowOf (g .part)) (g .command) (g .word) (g .p) f (heard (s .steps) wp f n (firstStep s) .last)
+  -- There is a function that steps as promised: the definition.
+  pub definition-is-promised : AsPromised stepOf
   -- Given any two values where the last cycle named was no read, or after the end, two steps of one state are the same.
   pub value-ignored : (c e : StepCall) → let g = toStep c in let h = toStep e in
       g .driver ≡ h .driver → noRead (g .driver .phase) (g .driver .count) ≡ true → c .back ≡ e .back
