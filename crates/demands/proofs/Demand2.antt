@@ -35,7 +35,7 @@ use Rattle.driver.specs.Talk.{Stepping, AsSaid, writeCycles, shownAfter, Told, 
 use Rattle.driver.proofs.Asked.{asking, begun}
 use Rattle.driver.proofs.Theorems as Theorems
 use Rattle.demands.specs.Calls.{onBus, refusedCycle, toWrite, StepCall, ToStep, toStep, AsPromised}
-use Rattle.demands.specs.Demand2.{IdleUnprotected, Stepped, asked, operationAsked, polls, cyclesAtMost, ChipFor, firstStep, talked, noRead, Demand2}
+use Rattle.demands.specs.Demand2.{IdleUnprotected, StartedDriver, startAsked, operationAsked, polls, cyclesAtMost, ChipFor, firstNamed, talked, noRead, Demand2}
 
 -- ---- a command's writes together
 -- the first count of six places are the writes
@@ -75,25 +75,25 @@ abbrev stepped : Driver → ℕ → StepCall
 stepped d v = record { lifetimes = tt; given = (d, (v, tt)); back = stepOf d v; ends = (d, (v, tt)); promise = refl }
 
 -- the first step is one of the state that the definition says
-first-is : (s : Stepped) → let g = asked s in firstStep s ≡ s .steps (startOf (g .part) (g .command) (g .address) (g .word) (g .p) .driver) (s .read)
+first-is : (s : StartedDriver) → let g = startAsked s in firstNamed s ≡ s .steps (startOf (g .part) (g .command) (g .address) (g .word) (g .p) .driver) (s .read)
 first-is s = ap (λ (t : Started). s .steps (t .driver) (s .read)) (s .start .promise)
 
 -- so a started driver talks as by the definition; it polls N times where the cell shows the wanted bit 7, else it gives up
-module _ (s : Stepped) (h : ChipFor (asked s)) where
+module _ (s : StartedDriver) (h : ChipFor (startAsked s)) where
   abbrev part : ℕ
-  part = asked s .part
+  part = startAsked s .part
 
   abbrev command : ℕ
-  command = asked s .command
+  command = startAsked s .command
 
   abbrev address : ℕ
-  address = asked s .address
+  address = startAsked s .address
 
   abbrev word : ℕ
-  word = asked s .word
+  word = startAsked s .word
 
   abbrev p : ℕ
-  p = asked s .p
+  p = startAsked s .p
 
   abbrev i : IdleUnprotected part command address (h .cells) (h .device) (h .wp)
   i = h .ready
@@ -103,29 +103,29 @@ module _ (s : Stepped) (h : ChipFor (asked s)) where
       ap (λ (t : Step). talk (s .steps) part (h .wp) n t (chip (h .cells) (h .device))) (first-is s)
       ∙ Theorems.talks-alike part command address word p (s .accepted) (s .steps) (as-said (s .steps) (s .promised)) (h .wp) n (s .read) (chip (h .cells) (h .device)) (s .word)
 
-  one : startedIn part (chip (h .cells) (h .device)) (writeCycles (h .wp) (writesOf (rowOf part) command address word)) ≡ operationAsked (asked s) ∷ []
+  one : startedIn part (chip (h .cells) (h .device)) (writeCycles (h .wp) (writesOf (rowOf part) command address word)) ≡ operationAsked (startAsked s) ∷ []
   one =
       Theorems.writes-start part command address word (h .wp) (h .cells) (h .device) (asking part command address word (begun part command address word p (s .accepted) .asked))
       (i .whole) (i .rests) (i .heeded) .1
 
-  starts : (n : ℕ) → cyclesAtMost (asked s) ≤ n → startedIn part (chip (h .cells) (h .device)) (talked s h n .cycles) ≡ operationAsked (asked s) ∷ []
+  starts : (n : ℕ) → cyclesAtMost (startAsked s) ≤ n → startedIn part (chip (h .cells) (h .device)) (talked s h n .cycles) ≡ operationAsked (startAsked s) ∷ []
   starts n enough = by (eqb (bitSeven shown) (bitWanted command word)) refl
     where
       shown : ℕ
       shown = shownAfter (rowOf part) command address word (h .cells)
 
       N : ℕ
-      N = polls (asked s)
+      N = polls (startAsked s)
 
-      by : (t : Bool) → eqb (bitSeven shown) (bitWanted command word) ≡ t → startedIn part (chip (h .cells) (h .device)) (talked s h n .cycles) ≡ operationAsked (asked s) ∷ []
+      by : (t : Bool) → eqb (bitSeven shown) (bitWanted command word) ≡ t → startedIn part (chip (h .cells) (h .device)) (talked s h n .cycles) ≡ operationAsked (startAsked s) ∷ []
       by true t =
           begins-once part command address word (h .wp) (h .cells) (h .device) _ (cycle confirmAfter (h .wp) (Read (addressOf command address)) ∷ []) N p (addressOf command address)
-          (operationAsked (asked s))
+          (operationAsked (startAsked s))
           (ap (λ (t : Told). t .cycles)
           (alike n ∙ Theorems.performs part command address word p (h .wp) (h .cells) (h .device) (s .accepted) (i .whole) (i .rests) (i .heeded) (eqb-true _ _ t) n (s .read) (omega arith)))
           one (one-read-starts part confirmAfter (h .wp) (addressOf command address))
       by false t =
-          begins-once part command address word (h .wp) (h .cells) (h .device) _ [] (N * 2) p (addressOf command address) (operationAsked (asked s))
+          begins-once part command address word (h .wp) (h .cells) (h .device) _ [] (N * 2) p (addressOf command address) (operationAsked (startAsked s))
           (ap (λ (t : Told). t .cycles)
           (alike n ∙ Theorems.gives-up part command address word p (h .wp) (h .cells) (h .device) (s .accepted) (i .whole) (i .rests) (i .heeded) (eqb-false _ _ t) n (s .read) (omega arith)))
           one (λ h. refl)
@@ -201,20 +201,20 @@ demand-2 =
           rw (c .promise, places-are (g .part) (g .command) (g .address) (g .word) accepted)
           (Theorems.writes-start (g .part) (g .command) (g .address) (g .word) wp cells d accepted (i .whole) (i .rests) (i .heeded) .1);
       driver-starts = starts;
-      driver-succeeds = λ s h same n enough. let g = asked s in let i = h .ready in
+      driver-succeeds = λ s h same n enough. let g = startAsked s in let i = h .ready in
           alike s h n ∙ Theorems.succeeds (g .part) (g .command) (g .address) (g .word) (g .p) (h .wp) (h .cells) (h .device) (s .accepted) (i .whole) (i .rests) (i .heeded) same n (s .read) enough;
-      driver-erases = λ s h e n enough. let g = asked s in let i = h .ready in
+      driver-erases = λ s h e n enough. let g = startAsked s in let i = h .ready in
           alike s h n ∙ Theorems.erases (g .part) (g .command) (g .address) (g .word) (g .p) (h .wp) (h .cells) (h .device) (s .accepted) (i .whole) (i .rests) (i .heeded) e n (s .read) enough;
-      driver-programs = λ s h z clears n enough. let g = asked s in let i = h .ready in
+      driver-programs = λ s h z clears n enough. let g = startAsked s in let i = h .ready in
           alike s h n ∙ Theorems.programs (g .part) (g .command) (g .address) (g .word) (g .p) (h .wp) (h .cells) (h .device) (s .accepted) (i .whole) (i .rests) (i .heeded) z clears n (s .read) enough;
-      driver-differs = λ s h z raises but n enough. let g = asked s in let i = h .ready in
+      driver-differs = λ s h z raises but n enough. let g = startAsked s in let i = h .ready in
           alike s h n ∙ Theorems.program-differs (g .part) (g .command) (g .address) (g .word) (g .p) (h .wp) (h .cells) (h .device) (s .accepted) (i .whole) (i .rests) (i .heeded) z raises but n (s .read) enough;
-      driver-gives-up = λ s h z seven n enough. let g = asked s in let i = h .ready in
+      driver-gives-up = λ s h z seven n enough. let g = startAsked s in let i = h .ready in
           alike s h n ∙ Theorems.program-gives-up (g .part) (g .command) (g .address) (g .word) (g .p) (h .wp) (h .cells) (h .device) (s .accepted) (i .whole) (i .rests) (i .heeded) z seven n (s .read) enough;
-      driver-ends = λ s wp f words n enough. let g = asked s in
+      driver-ends = λ s wp f words n enough. let g = startAsked s in
           rw (first-is s)
           (Theorems.always-ends (g .part) (g .command) (g .address) (g .word) (g .p) (s .accepted) wp (s .steps) (as-said (s .steps) (s .promised)) f words (s .read) (s .word) n enough);
-      driver-means = λ s wp f words n enough. let g = asked s in
+      driver-means = λ s wp f words n enough. let g = startAsked s in
           rw (first-is s)
           (Theorems.means (g .part) (g .command) (g .address) (g .word) (g .p) (s .accepted) wp (s .steps) (as-said (s .steps) (s .promised)) f words (s .read) (s .word) n enough);
       definition-is-promised = record { call = λ d v t. stepped d v; gave = λ d v t. refl; handed = λ d v t. refl };

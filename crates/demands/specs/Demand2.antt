@@ -36,7 +36,7 @@ pub record IdleUnprotected (part command address : ℕ) (cells : List ℕ) (d : 
 
 -- ---- a driver, by any function that the promise of its step allows
 -- its start was not refused, and it is stepped on by a function as promised, whatever word was read before
-pub record Stepped : Type 0 where
+pub record StartedDriver : Type 0 where
   pub start : StartCall
   pub accepted : refusedStart (toStart (start .given)) ≡ 0
   pub steps : Stepping
@@ -44,12 +44,12 @@ pub record Stepped : Type 0 where
   pub read : ℕ
   pub word : read < 2 ^ 16
 
-abbrev pub asked : Stepped → ToStart
-asked s = toStart (s .start .given)
+abbrev pub startAsked : StartedDriver → ToStart
+startAsked s = toStart (s .start .given)
 
--- its first step
-abbrev pub firstStep : Stepped → Step
-firstStep s = s .steps (s .start .back .driver) (s .read)
+-- its first step, which names the first cycle
+abbrev pub firstNamed : StartedDriver → Step
+firstNamed s = s .steps (s .start .back .driver) (s .read)
 
 -- the operation asked for
 abbrev pub operationAsked : ToStart → Operation
@@ -79,8 +79,8 @@ abbrev pub oldValue : (g : ToStart) → ChipFor g → ℕ
 oldValue g h = valueOf (rowOf (g .part) .width) (getD (h .cells) (g .address) 0)
 
 -- each cycle that it names is sent to that chip and the reply given to its next step: at most n cycles
-abbrev pub talked : (s : Stepped) → ChipFor (asked s) → ℕ → Told
-talked s h n = talk (s .steps) (asked s .part) (h .wp) n (firstStep s) (chip (h .cells) (h .device))
+abbrev pub talked : (s : StartedDriver) → ChipFor (startAsked s) → ℕ → Told
+talked s h n = talk (s .steps) (startAsked s .part) (h .wp) n (firstNamed s) (chip (h .cells) (h .device))
 
 -- an end after so many polls, Done 0, GaveUp 11, Differs 12: the writes, these polls and, unless it gave up, one confirming
 -- read are sent; the operation has completed on the cells, the device is fresh; the polls are in the last step
@@ -118,38 +118,38 @@ pub record Demand2 : Type 0 where
       → startedIn (g .part) (chip cells d) (writeCycles wp (take (c .back .count) (c .back .writes)))
       ≡ operationOf (rowOf (g .part)) (g .command) (g .address) (g .word) ∷ []
   -- The cycles that a started driver names start the operation asked for and no other, whatever the cells hold.
-  pub driver-starts : (s : Stepped) → let g = asked s in (h : ChipFor g)
+  pub driver-starts : (s : StartedDriver) → let g = startAsked s in (h : ChipFor g)
       → (n : ℕ) → cyclesAtMost g ≤ n
       → startedIn (g .part) (chip (h .cells) (h .device)) (talked s h n .cycles) ≡ operationAsked g ∷ []
   -- There, where the cell shows the wanted value once the operation has completed, it ends with 0 after N polls:
-  pub driver-succeeds : (s : Stepped) → let g = asked s in (h : ChipFor g)
+  pub driver-succeeds : (s : StartedDriver) → let g = startAsked s in (h : ChipFor g)
       → shownAfter (rowOf (g .part)) (g .command) (g .address) (g .word) (h .cells)
       ≡ valueWanted (rowOf (g .part)) (g .command) (g .word)
       → (n : ℕ) → cyclesAfterN g ≤ n → talked s h n ≡ endedWith g h (polls g) Done
   -- after every erase,
-  pub driver-erases : (s : Stepped) → let g = asked s in (h : ChipFor g) → (g .command ≡ PROGRAM → ⊥)
+  pub driver-erases : (s : StartedDriver) → let g = startAsked s in (h : ChipFor g) → (g .command ≡ PROGRAM → ⊥)
       → (n : ℕ) → cyclesAfterN g ≤ n → talked s h n ≡ endedWith g h (polls g) Done
   -- and after a program that has no bit to raise.
-  pub driver-programs : (s : Stepped) → let g = asked s in (h : ChipFor g) → g .command ≡ PROGRAM
+  pub driver-programs : (s : StartedDriver) → let g = startAsked s in (h : ChipFor g) → g .command ≡ PROGRAM
       → bitAnd (oldValue g h) (g .word) ≡ g .word
       → (n : ℕ) → cyclesAfterN g ≤ n → talked s h n ≡ endedWith g h (polls g) Done
   -- A program that would have to raise bits, but not bit 7, ends with 12 after N polls,
-  pub driver-differs : (s : Stepped) → let g = asked s in (h : ChipFor g) → g .command ≡ PROGRAM
+  pub driver-differs : (s : StartedDriver) → let g = startAsked s in (h : ChipFor g) → g .command ≡ PROGRAM
       → MustRaise (oldValue g h) (g .word) → (MustRaiseSeven (oldValue g h) (g .word) → ⊥)
       → (n : ℕ) → cyclesAfterN g ≤ n → talked s h n ≡ endedWith g h (polls g) Differs
   -- and one that would have to raise bit 7 with 11 after 2N polls.
-  pub driver-gives-up : (s : Stepped) → let g = asked s in (h : ChipFor g) → g .command ≡ PROGRAM
+  pub driver-gives-up : (s : StartedDriver) → let g = startAsked s in (h : ChipFor g) → g .command ≡ PROGRAM
       → MustRaiseSeven (oldValue g h) (g .word)
       → (n : ℕ) → writeCount (g .command) + polls g * 2 ≤ n → talked s h n ≡ endedWith g h (polls g * 2) GaveUp
   -- Whatever words are replied (f), a dead chip's constant among them, a started driver has ended after 6 + 2N + 1 cycles, 4
   -- + 2N + 1 for a program: `Ended` says how,
-  pub driver-ends : (s : Stepped) → let g = asked s in (wp : Bool) (f : ℕ → ℕ) → ((i : ℕ) → f i < 2 ^ 16)
+  pub driver-ends : (s : StartedDriver) → let g = startAsked s in (wp : Bool) (f : ℕ → ℕ) → ((i : ℕ) → f i < 2 ^ 16)
       → (n : ℕ) → cyclesAtMost g ≤ n
-      → Ended (s .steps) (g .part) (g .command) (g .address) (g .word) (g .p) wp (heard (s .steps) wp f n (firstStep s))
+      → Ended (s .steps) (g .part) (g .command) (g .address) (g .word) (g .p) wp (heard (s .steps) wp f n (firstNamed s))
   -- and `Meaning` what 0, 11 and 12 say of the replies, each given exactly then.
-  pub driver-means : (s : Stepped) → let g = asked s in (wp : Bool) (f : ℕ → ℕ) → ((i : ℕ) → f i < 2 ^ 16)
+  pub driver-means : (s : StartedDriver) → let g = startAsked s in (wp : Bool) (f : ℕ → ℕ) → ((i : ℕ) → f i < 2 ^ 16)
       → (n : ℕ) → cyclesAtMost g ≤ n
-      → Meaning (rowOf (g .part)) (g .command) (g .word) (g .p) f (heard (s .steps) wp f n (firstStep s) .last)
+      → Meaning (rowOf (g .part)) (g .command) (g .word) (g .p) f (heard (s .steps) wp f n (firstNamed s) .last)
   -- There is a function that steps as promised: the definition.
   pub definition-is-promised : AsPromised stepOf
   -- Given any two values where the last cycle named was no read, or after the end, two steps of one state are the same.

@@ -44,8 +44,8 @@ module _ (part command a x p : ℕ) (accepted : startRefusal part command a x p 
   start : asks.Begun part command a x p
   start = asks.begun part command a x p accepted
 
-  k : partRefusal part ≡ 0
-  k = start .asked .known
+  listed : partRefusal part ≡ 0
+  listed = start .asked .known
 
   -- a state that it comes to
   pub record Reached (d : Driver) : Type 0 where
@@ -66,7 +66,7 @@ module _ (part command a x p : ℕ) (accepted : startRefusal part command a x p 
   pub in-types : (d : Driver) (v : ℕ) → Reached d → v < 2 ^ 16 → InTypes d v
   in-types d v w h =
       record {
-        part = omega (arith, same (λ d. d .part), known part k);
+        part = omega (arith, same (λ d. d .part), known part listed);
         command = omega (arith, same (λ d. d .command), few-commands part command a x p accepted);
         address = omega (arith, same (λ d. d .address), address-le);
         word = omega (arith, same (λ d. d .«data»), word-lt);
@@ -80,15 +80,15 @@ module _ (part command a x p : ℕ) (accepted : startRefusal part command a x p 
 
       address-le : addressOf command a ≤ 4194304
       address-le =
-          split (λ (n : ℕ). n ≤ 4194304) (eqb command 3) 0 a (λ _. omega arith) (λ z. omega (arith, start .asked .target .there (eqb-false command 3 z), cells-most part k))
+          split (λ (n : ℕ). n ≤ 4194304) (eqb command 3) 0 a (λ _. omega arith) (λ z. omega (arith, start .asked .target .there (eqb-false command 3 z), cells-most part listed))
 
       word-lt : dataOf command x < 2 ^ 16
       word-lt =
           split (λ (n : ℕ). n < 2 ^ 16) (eqb command 0) x 0
-          (λ z. omega (arith, fits-lt _ x (start .asked .target .fits (eqb-true command 0 z)), pow-mono (width-most part k))) (λ _. omega arith)
+          (λ z. omega (arith, fits-lt _ x (start .asked .target .fits (eqb-true command 0 z)), pow-mono (width-most part listed))) (λ _. omega arith)
 
       few : most d ≤ 280000
-      few = most-le (rowOf (d .part)) (d .command) (d .p) (rw (same (λ d. d .part)) (usual part k))
+      few = most-le (rowOf (d .part)) (d .command) (d .p) (rw (same (λ d. d .part)) (usual part listed))
 
   module _ (steps : Stepping) (said : AsSaid steps) (wp : Bool) where
     pub as-said : (d : Driver) (v : ℕ) → Reached d → v < 2 ^ 16 → steps d v ≡ stepOf d v
@@ -110,7 +110,7 @@ module _ (part command a x p : ℕ) (accepted : startRefusal part command a x p 
             let v = shows part h c in
             ap (led c)
             (ap (λ (t : Step). talk steps part wp n t (after part h c))
-            (as-said (s .driver) v w (shown-word part k (h .cells) (h .device) c))
+            (as-said (s .driver) v w (shown-word part listed (h .cells) (h .device) c))
             ∙ ih v (after part h c))
 
     pub talks-alike : (n read : ℕ) (h : Chip) → read < 2 ^ 16 → talk steps part wp n (steps b read) h ≡ talk stepOf part wp n (stepOf b read) h

@@ -24,12 +24,12 @@ use Rattle.driver.proofs.Steps.{most}
 use Rattle.driver.proofs.Talks.{some-polls, driverAt, first-poll, write-step, poll-again, confirm-then, give-up, compare}
 
 -- ---- the three ends
-pub data Ends (b : Driver) (f : ℕ → ℕ) : Step → Type 0 where
+pub data ComesTo (b : Driver) (f : ℕ → ℕ) : Step → Type 0 where
   done : (q : ℕ) → MatchedAfter (rowOf (b .part)) (b .command) (b .«data») (b .p) f q → ReadConfirms (rowOf (b .part)) (b .command) (b .«data») f q
-      → Ends b f (ended (moved b Polling q) Done)
+      → ComesTo b f (ended (moved b Polling q) Done)
   differs : (q : ℕ) → MatchedAfter (rowOf (b .part)) (b .command) (b .«data») (b .p) f q → (ReadConfirms (rowOf (b .part)) (b .command) (b .«data») f q → ⊥)
-      → Ends b f (ended (moved b Polling q) Differs)
-  gave-up : NeverMatched (rowOf (b .part)) (b .command) (b .«data») (b .p) f → Ends b f (ended (moved b Polling (most b)) GaveUp)
+      → ComesTo b f (ended (moved b Polling q) Differs)
+  gave-up : NeverMatched (rowOf (b .part)) (b .command) (b .«data») (b .p) f → ComesTo b f (ended (moved b Polling (most b)) GaveUp)
 
 -- the step that a talk comes to, turn by turn
 module _ (wp : Bool) where
@@ -56,7 +56,7 @@ module _ (b : Driver) (accepted : startRefusal (b .part) (b .command) (b .addres
 
   -- the confirming read after q polls
   confirming : (q n : ℕ) (f g : ℕ → ℕ) → g 0 ≡ f (W + q) → 0 < q → q ≤ most b → Match f (q - 1) → ((i : ℕ) → i < q - 1 → Match f i → ⊥)
-      → Ends b f (heard stepOf wp g (suc n) (confirms (moved b Polling q)) .last)
+      → ComesTo b f (heard stepOf wp g (suc n) (confirms (moved b Polling q)) .last)
   unfolding mostPolls
   confirming q n f g at some few last first =
       rw (sends wp n 0 _ q (moved b Confirming q) _ g, compare b accepted wp q (g 0) some few)
@@ -66,14 +66,14 @@ module _ (b : Driver) (accepted : startRefusal (b .part) (b .command) (b .addres
       w = record { some = some; few = few; last = last; first = first }
 
       by : (z : Bool) → eqb (valueOf (r .width) (g 0)) (valueWanted r (b .command) (b .«data»)) ≡ z
-          → Ends b f (heard stepOf wp (λ i. g (suc i)) n (ended (moved b Polling q) (pick z Done Differs)) .last)
+          → ComesTo b f (heard stepOf wp (λ i. g (suc i)) n (ended (moved b Polling q) (pick z Done Differs)) .last)
       by true z = rw (rests wp n _ q _ (λ i. g (suc i))) (done q w (ap (valueOf (r .width)) (sym at) ∙ eqb-true _ _ z))
       by false z = rw (rests wp n _ q _ (λ i. g (suc i))) (differs q w (λ e. eqb-false _ _ z (ap (valueOf (r .width)) at ∙ e)))
 
   -- the reply to a poll after q without a match: it matches,
   matching : (q n : ℕ) (f g : ℕ → ℕ) → ((i : ℕ) → g i ≡ f (W + q + i)) → q < most b → 0 < n → ((i : ℕ) → i < q → Match f i → ⊥)
       → eqb (bitSeven (g 0)) (bitWanted (b .command) (b .«data»)) ≡ true
-      → Ends b f (heard stepOf wp (λ i. g (suc i)) n (stepOf (moved b Polling (q + 1)) (g 0)) .last)
+      → ComesTo b f (heard stepOf wp (λ i. g (suc i)) n (stepOf (moved b Polling (q + 1)) (g 0)) .last)
   matching q zero f g at more fuel none hit = absurd (omega arith)
   matching q (suc n) f g at more fuel none hit =
       let e : q + 1 - 1 ≡ q = omega arith in
@@ -97,19 +97,19 @@ module _ (b : Driver) (accepted : startRefusal (b .part) (b .command) (b .addres
 
   -- so one poll more
   answered : (q n : ℕ) (f g : ℕ → ℕ) → ((i : ℕ) → g i ≡ f (W + q + i)) → q < most b → 0 < n → ((i : ℕ) → i < q → Match f i → ⊥)
-      → (eqb (bitSeven (g 0)) (bitWanted (b .command) (b .«data»)) ≡ false → Ends b f (heard stepOf wp (λ i. g (suc i)) n (stepOf (moved b Polling (q + 1)) (g 0)) .last))
-      → Ends b f (heard stepOf wp g (suc n) (polls (moved b Polling q)) .last)
+      → (eqb (bitSeven (g 0)) (bitWanted (b .command) (b .«data»)) ≡ false → ComesTo b f (heard stepOf wp (λ i. g (suc i)) n (stepOf (moved b Polling (q + 1)) (g 0)) .last))
+      → ComesTo b f (heard stepOf wp g (suc n) (polls (moved b Polling q)) .last)
   answered q n f g at more fuel none on =
       rw (sends wp n 0 _ (q + 1) (moved b Polling (q + 1)) _ g) (by (eqb (bitSeven (g 0)) (bitWanted (b .command) (b .«data»))) refl)
     where
       by : (z : Bool) → eqb (bitSeven (g 0)) (bitWanted (b .command) (b .«data»)) ≡ z
-          → Ends b f (heard stepOf wp (λ i. g (suc i)) n (stepOf (moved b Polling (q + 1)) (g 0)) .last)
+          → ComesTo b f (heard stepOf wp (λ i. g (suc i)) n (stepOf (moved b Polling (q + 1)) (g 0)) .last)
       by true z = matching q n f g at more fuel none z
       by false z = on z
 
   -- the polls: q have been answered without a match, one is named, and j more come at most
   polling : (j q n : ℕ) (f g : ℕ → ℕ) → ((i : ℕ) → g i ≡ f (W + q + i)) → q + suc j ≡ most b → suc j < n → ((i : ℕ) → i < q → Match f i → ⊥)
-      → Ends b f (heard stepOf wp g n (polls (moved b Polling q)) .last)
+      → ComesTo b f (heard stepOf wp g n (polls (moved b Polling q)) .last)
   unfolding mostPolls
   polling j q zero f g at all fuel none = absurd (omega arith)
   polling zero q (suc n) f g at all fuel none =
@@ -124,7 +124,7 @@ module _ (b : Driver) (accepted : startRefusal (b .part) (b .command) (b .addres
 
   -- the writes, whatever is replied to them: k have been answered
   writing : (j k n read : ℕ) (f g : ℕ → ℕ) → ((i : ℕ) → g i ≡ f (k + i)) → k + j ≡ W → j + most b + 1 ≤ n
-      → Ends b f (heard stepOf wp g n (stepOf (driverAt b accepted wp k) read) .last)
+      → ComesTo b f (heard stepOf wp g n (stepOf (driverAt b accepted wp k) read) .last)
   unfolding driverAt
   writing zero k n read f g at e enough =
       let w : W ≤ k = omega arith in
@@ -137,7 +137,7 @@ module _ (b : Driver) (accepted : startRefusal (b .part) (b .command) (b .addres
       rw (lt-ltb k W l, write-step b accepted wp k read l, sends wp n 0 0 0 (driverAt b accepted wp (suc k)) _ g)
       (writing j (suc k) n (g 0) f (λ i. g (suc i)) (λ i. let u : k + suc i ≡ suc k + i = omega arith in at (suc i) ∙ ap f u) (omega arith) (omega arith))
 
-  pub ends : (f : ℕ → ℕ) (read n : ℕ) → W + most b + 1 ≤ n → Ends b f (heard stepOf wp f n (stepOf (moved b Writing 0) read) .last)
+  pub ends : (f : ℕ → ℕ) (read n : ℕ) → W + most b + 1 ≤ n → ComesTo b f (heard stepOf wp f n (stepOf (moved b Writing 0) read) .last)
   unfolding driverAt
   ends f read n enough =
       let z : 0 + W ≡ W = omega arith in
@@ -159,7 +159,7 @@ same-match r command x y p f q e w = record { some = w .some; few = w .few; last
 
 module _ (b : Driver) (f : ℕ → ℕ) (x : ℕ) (bit : bitWanted (b .command) (b .«data») ≡ bitWanted (b .command) x)
     (value : valueWanted (rowOf (b .part)) (b .command) (b .«data») ≡ valueWanted (rowOf (b .part)) (b .command) x) where
-  pub means : (s : Step) → Ends b f s → Meaning (rowOf (b .part)) (b .command) x (b .p) f s
+  pub means : (s : Step) → ComesTo b f s → Meaning (rowOf (b .part)) (b .command) x (b .p) f s
   unfolding mostPolls
   means s (done q v c) =
       let w = same-match _ _ _ _ _ f q bit v in
