@@ -29,12 +29,13 @@ use Rattle.driver.specs.Refusals.{startRefusal}
 use Rattle.driver.specs.Writes.{noWrite, commandWrites, kth, kthRefusal, kthWrite}
 use Rattle.driver.specs.Machine.{valueWanted, noDriver, startOf, startWriting, mostPolls, inRange, step, ended, writingOf, polls, matches, pollingOf, confirmingOf, phaseOf, stepOf}
 use Rattle.driver.proofs.Begins.{start-range}
+use Rattle.driver.proofs.Theorems.{refused-steps}
 use Rattle.job.specs.declared.bill.Bill.{Bill}
 use Rattle.job.specs.Bill.{Loaded, Reported, refusedBill, loadOf, reportOf}
 use Rattle.jobfile.specs.declared.trailer.JobFile.{JobFile}
 use Rattle.jobfile.specs.JobFile.{malformed, trailerOf, refused, asked, jobOf}
 use Rattle.billing.specs.File.{billOfJob, billOfFile}
-use Rattle.demands.specs.Calls.{onBus, refusedCycle, StepCall, toStep, refusedStart, toStart, refusedWrites, toWrite, kthAsked, refusedJob, toLoad, toLoadFirst}
+use Rattle.demands.specs.Calls.{onBus, refusedCycle, StepCall, toStep, StartCall, StartWritingCall, ToStart, refusedStart, toStart, refusedWrites, toWrite, kthAsked, refusedJob, toLoad, toLoadFirst}
 use Rattle.demands.specs.Calls.{rowAsked, figureAsked, toRead, ToRead, toBill, jobAsked, refusedFile}
 use Rattle.demands.specs.Demand1.{Refuses, RefusesState, Demand1}
 
@@ -84,6 +85,21 @@ step-refuses c = record { only = λ e. by (inRange d) refl (rw (c .promise) at e
     by : (t : Bool) → inRange d ≡ t → pick t (phaseOf (rowOf (d .part)) (d .phase) d (toStep c .read)) (step 5 d Nothing 0) .answer ≡ 5 → t ≡ false
     by true t e = absurd (phases-answer (rowOf (d .part)) (d .phase) d (toStep c .read) e)
     by false t e = refl
+
+-- ---- the two starts; and a step of the state that a refused one handed back
+start-refuses : (c : StartCall) → Refuses Started (c .back .answer) (refusedStart (toStart (c .given))) (c .back) (record { answer = refusedStart (toStart (c .given)); driver = noDriver })
+unfolding startOf
+start-refuses c = rw (c .promise) (by-test (λ (t : Started). t .answer) (refusedStart (toStart (c .given))) _ _ refl refl)
+
+start-writing-refuses : (c : StartWritingCall)
+    → Refuses Step (c .back .answer) (refusedStart (toStart (c .given))) (c .back) (step (refusedStart (toStart (c .given))) noDriver Nothing 0)
+start-writing-refuses c = let g = toStart (c .given) in rw (c .promise) (starts-refuse (g .part) (g .command) (g .address) (g .word) (g .p))
+
+no-driver-steps : (g : ToStart) → (refusedStart g ≡ 0 → ⊥) → (d : Driver) → d ≡ noDriver → (e : StepCall) → toStep e .driver ≡ d → e .back ≡ step 5 d Nothing 0
+no-driver-steps g n d none e same =
+    e .promise
+    ∙ (ap (λ (d : Driver). stepOf d (toStep e .read)) (same ∙ none)
+    ∙ (refused-steps (g .part) (g .command) (g .address) (g .word) (g .p) n .1 (toStep e .read) ∙ ap (λ (d : Driver). step 5 d Nothing 0) (sym none)))
 
 -- ---- the k-th write, and figures: as the functions and the C controller's have them
 kth-refuses : (part command address x k : ℕ)
@@ -138,15 +154,17 @@ bills-refuse g = by (ltb 20480 (length (g .file))) (malformed (g .file))
 
 -- ---- together
 pub demand-1 : Demand1
-unfolding cycleOf acceptedOf startOf commandWrites loadOf reportOf
+unfolding cycleOf acceptedOf commandWrites loadOf reportOf
 demand-1 =
     record {
       bus-cycle-refuses = λ c. let g = onBus c in
           rw (c .promise .0, c .promise .1)
           (by-test (λ (o : Outcome). o .reply .answer) (refusedCycle g) _ _ (acted-answers _ (afterTime _ (chip (g .cells) (g .device)) (g .cycle .elapsed)) (g .cycle .wp) (g .cycle .action)) refl);
-      start-refuses = λ c. rw (c .promise) (by-test (λ (t : Started). t .answer) (refusedStart (toStart (c .given))) _ _ refl refl);
-      start-writing-refuses = λ c. let g = toStart (c .given) in rw (c .promise) (starts-refuse (g .part) (g .command) (g .address) (g .word) (g .p));
+      start-refuses = start-refuses;
+      start-writing-refuses = start-writing-refuses;
       step-refuses = step-refuses;
+      refused-start-steps = λ c n. no-driver-steps (toStart (c .given)) n (c .back .driver) (ap (λ (t : Started). t .driver) (start-refuses c .beside n));
+      refused-start-writing-steps = λ c n. no-driver-steps (toStart (c .given)) n (c .back .driver) (ap (λ (t : Step). t .driver) (start-writing-refuses c .beside n));
       writes-refuses = λ c. rw (c .promise) (by-test (λ (t : Writes). t .answer) (refusedWrites (toWrite c)) _ _ refl refl);
       kth-write-refuses = λ c. let g = kthAsked (c .given) in rw (c .promise) (kth-refuses (g .part) (g .command) (g .address) (g .word) (g .k));
       load-refuses = λ c. rw (c .promise .0, c .promise .1) (by-test (λ (l : Loaded). l .bill .answer) (refusedJob (toLoad c)) _ _ refl refl);

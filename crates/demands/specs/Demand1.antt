@@ -49,6 +49,11 @@ pub record Demand1 : Type 0 where
       Refuses Step (c .back .answer) n (c .back) (step n noDriver Nothing 0)
   -- A step refuses with 5 only.
   pub step-refuses : (c : StepCall) → RefusesState (toStep c .driver) (c .back)
+  -- The state that a refused start hands back is answered with 5: no cycle is named, and the state handed back.
+  pub refused-start-steps : (c : StartCall) → (refusedStart (toStart (c .given)) ≡ 0 → ⊥)
+      → (e : StepCall) → toStep e .driver ≡ c .back .driver → e .back ≡ step BAD-STATE (c .back .driver) Nothing 0
+  pub refused-start-writing-steps : (c : StartWritingCall) → (refusedStart (toStart (c .given)) ≡ 0 → ⊥)
+      → (e : StepCall) → toStep e .driver ≡ c .back .driver → e .back ≡ step BAD-STATE (c .back .driver) Nothing 0
   -- A refused command's writes: its number, no write, and six places of zeros.
   pub writes-refuses : (c : WritesCall) → let n = refusedWrites (toWrite c) in
       Refuses Writes (c .back .answer) n (c .back) (writes n 0 [])

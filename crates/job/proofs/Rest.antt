@@ -71,7 +71,7 @@ module _ (j : Job) (image : List ℕ) where
     saying m t w = spoken Sent (asSent j command) (j .part) (j .wp) m t (chipOf w)
 
     abbrev talking : ℕ → Step → World → Told
-    talking m t w = talk (j .part) (j .wp) m t (chipOf w)
+    talking m t w = talk stepOf (j .part) (j .wp) m t (chipOf w)
 
     -- the loader's turn is the driver's step
     steps : (d : Driver) (r : ℕ) → turnOf j image seen (loader (Driving task d) base i) r ≡ turned seen (drivenOf j image task base i (stepOf d r))
