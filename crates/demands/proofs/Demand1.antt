@@ -1,20 +1,20 @@
 -- Demand 1 is met. What is proved stands in specs/Demand1.antt.
-use Prim.Native.Nat.{ℕ, _-_}
+use Prim.Native.Nat.{ℕ, zero, suc, _-_, _<_}
 use mathlib.Core.Path.{_≡_, refl, sym, ap, _∙_}
 use mathlib.Core.Bool.{Bool, true, false}
 use mathlib.Core.List.{List}
 use native.Mathlib.Omega.{arith}
-use borrow.Author.Tests.{ne-eqb, eqb-true, ltb-true}
+use borrow.Author.Tests.{ne-eqb, eqb-true, ltb-true, ltb-false}
 use lib.Dec.{eqb, ltb}
 use lib.ListN.{length, List·getD-eq-default}
-use Rattle.parts.specs.Pick.{pick}
+use Rattle.parts.specs.Pick.{pick, _unless_, _else_, _orElse_}
 use Rattle.parts.specs.Width.{valueOf}
 use Rattle.parts.specs.Table.{noLine, lines, lineOf, rowFrom, rowOf, partRefusal, foundOf}
 use Rattle.table.specs.Figures.{figure, figureRefusal, figureOf}
 use Rattle.parts.specs.declared.table.Row.{Row}
 use Rattle.table.specs.declared.figure.Figure.{Figure}
 use Rattle.parts.specs.declared.table.Found.{Found}
-use Rattle.parts.proofs.Every.{split}
+use Rattle.parts.proofs.Every.{apart, split}
 use Rattle.chip.specs.Cycle.{chip, Outcome, afterTime, acceptedOf, cycleOf}
 use Rattle.chip.proofs.Cases.{acted-answers}
 use Rattle.driver.specs.declared.machine.Started.{Started}
@@ -36,8 +36,15 @@ use Rattle.jobfile.specs.declared.trailer.JobFile.{JobFile}
 use Rattle.jobfile.specs.JobFile.{malformed, trailerOf, refused, asked, jobOf}
 use Rattle.billing.specs.File.{billOfJob, billOfFile}
 use Rattle.demands.specs.Calls.{onBus, refusedCycle, StepCall, toStep, StartCall, StartWritingCall, ToStart, refusedStart, toStart, refusedWrites, toWrite, kthAsked, refusedJob, toLoad, toLoadFirst}
+use Rattle.station.specs.declared.machine.DriverNumbers.{DriverNumbers}
+use Rattle.station.specs.declared.machine.StartNumbers.{StartNumbers}
+use Rattle.station.specs.Machine.{phaseAt, driverNumbers, driverOf, startNumbers, steppedOf}
+use Rattle.station.specs.Cycle.{deviceOf, noState, Cycled, cycledNumbers}
+use Rattle.station.proofs.Back.{no-phase, out-of-range, bad-mode, bad-toggle, no-device, refused-numbers, taken-numbers}
 use Rattle.demands.specs.Calls.{rowAsked, figureAsked, toRead, ToRead, toBill, jobAsked, refusedFile}
-use Rattle.demands.specs.Demand1.{Refuses, RefusesState, Demand1}
+use Rattle.demands.specs.Controller.{StationStepCall, numbersToStep, OnStation, onStation, meant, noDevice, stationToLoad, stationToLoadFirst, stationToRead, stationToBill}
+use Rattle.demands.proofs.Controller.{cycleAsked, station-left}
+use Rattle.demands.specs.Demand1.{Refuses, RefusesState, RefusesNumbers, Demand1}
 
 -- one test decides: what is handed back where it passes answers 0
 by-test : {A : Type 0} (answer : A → ℕ) (n : ℕ) (good bad : A) → answer good ≡ 0 → answer bad ≡ n
@@ -100,6 +107,57 @@ no-driver-steps g n d none e same =
     e .promise
     ∙ (ap (λ (d : Driver). stepOf d (toStep e .read)) (same ∙ none)
     ∙ (refused-steps (g .part) (g .command) (g .address) (g .word) (g .p) n .1 (toStep e .read) ∙ ap (λ (d : Driver). step 5 d Nothing 0) (sym none)))
+
+-- ---- the C controller's start, step and bus cycle
+stations-start : (part command address x p : ℕ) → let t = startNumbers (startOf part command address x p) in let n = startRefusal part command address x p in
+    Refuses StartNumbers (t .answer) n t (record { answer = n; driver = driverNumbers noDriver })
+unfolding startOf
+stations-start part command address x p =
+    let w = by-test (λ (t : Started). t .answer) (startRefusal part command address x p) _ _ refl refl in
+    record { exactly = w .exactly; beside = λ e. ap startNumbers (w .beside e) }
+
+station-step-refuses : (c : StationStepCall) → RefusesNumbers (numbersToStep c .driver) (c .back)
+unfolding steppedOf stepOf
+station-step-refuses c = by (ltb 5 (n .phase)) refl (inRange (driverOf n)) refl
+  where
+    n : DriverNumbers
+    n = numbersToStep c .driver
+
+    read : ℕ
+    read = numbersToStep c .read
+
+    by : (t : Bool) → ltb 5 (n .phase) ≡ t → (u : Bool) → inRange (driverOf n) ≡ u → RefusesNumbers n (c .back)
+    by true t u v = record { only = λ e. rw t; beside = λ e. c .promise ∙ no-phase n read (ltb-true 5 (n .phase) t) }
+    by false t false v = record { only = λ e. rw (t, v); beside = λ e. c .promise ∙ out-of-range n read (ltb-false 5 (n .phase) t) v }
+    by false t true v =
+        record {
+          only = λ e. absurd (phases-answer (rowOf (n .part)) (phaseAt (n .phase)) (driverOf n) read (rw (c .promise, t, v) at e));
+          beside = λ e. apart (sym (rw (t, v) at e));
+        }
+
+cycles-refuse : (g : OnStation) → let n = refusedCycle (meant g) in let l = cycledNumbers (g .device) (cycleAsked (meant g)) in
+    Refuses Cycled (l .reply .answer) n l (record { cells = g .cells; reply = record { answer = n; value = 0; device = g .device } })
+cycles-refuse g = by n refl
+  where
+    n : ℕ
+    n = refusedCycle (meant g)
+
+    l : Cycled
+    l = cycledNumbers (g .device) (cycleAsked (meant g))
+
+    by : (k : ℕ) → n ≡ k → Refuses Cycled (l .reply .answer) n l (record { cells = g .cells; reply = record { answer = n; value = 0; device = g .device } })
+    by zero z = record { exactly = ap (λ (t : Cycled). t .reply .answer) (taken-numbers (g .part) (g .cells) (g .device) (g .cycle) z) ∙ sym z; beside = λ e. absurd (e z) }
+    by (suc k) z =
+        let w = refused-numbers (g .part) (g .cells) (g .device) (g .cycle) n (let h : 0 < suc k = omega arith in rw z h) refl in
+        record { exactly = ap (λ (t : Cycled). t .reply .answer) w; beside = λ e. w }
+
+no-devices : (g : OnStation) → noDevice (g .device) ≡ true
+    → refusedCycle (meant g) ≡ (partRefusal (g .part) orElse 2 unless eqb (length (g .cells)) (rowOf (g .part) .cells) else 5)
+no-devices g e = no-device (g .part) (length (g .cells)) (g .device) (g .cycle .action) (by (ltb 1 (g .device .mode)) refl e)
+  where
+    by : (t : Bool) → ltb 1 (g .device .mode) ≡ t → pick t true (ltb 1 (g .device .toggle)) ≡ true → deviceOf (g .device) ≡ noState
+    by true t e = bad-mode (g .device) (ltb-true 1 (g .device .mode) t)
+    by false t e = bad-toggle (g .device) (ltb-false 1 (g .device .mode) t) (ltb-true 1 (g .device .toggle) e)
 
 -- ---- the k-th write, and figures: as the functions and the C controller's have them
 kth-refuses : (part command address x k : ℕ)
@@ -178,4 +236,12 @@ demand-1 =
       station-write-address-refuses = λ c e. let g = kthAsked (c .given) in c .promise ∙ ap (λ (k : Kth). k .address) (kth-refuses (g .part) (g .command) (g .address) (g .word) (g .k) .beside e);
       station-write-data-refuses = λ c e. let g = kthAsked (c .given) in c .promise ∙ ap (λ (k : Kth). k .«data») (kth-refuses (g .part) (g .command) (g .address) (g .word) (g .k) .beside e);
       station-write-answers = λ c. let g = kthAsked (c .given) in c .promise ∙ kth-refuses (g .part) (g .command) (g .address) (g .word) (g .k) .exactly;
+      station-start-refuses = λ c. let g = toStart (c .given) in rw (c .promise) (stations-start (g .part) (g .command) (g .address) (g .word) (g .p));
+      station-step-refuses = station-step-refuses;
+      station-cycle-refuses = λ c. rw (station-left c) (cycles-refuse (onStation c));
+      station-no-device = λ c. no-devices (onStation c);
+      station-load-refuses = λ c. rw (c .promise .0, c .promise .1) (by-test (λ (l : Loaded). l .bill .answer) (refusedJob (stationToLoad c)) _ _ refl refl);
+      station-load-first-refuses = λ c. rw (c .promise .0, c .promise .1) (by-test (λ (l : Reported). l .report .answer) (refusedJob (stationToLoadFirst c .job)) _ _ refl refl);
+      station-job-refuses = λ c. rw (c .promise) (files-refuse (stationToRead c .file));
+      station-bill-refuses = λ c. rw (c .promise) (bills-refuse (stationToBill c));
     }

@@ -1,5 +1,5 @@
 -- Demand 2 is met. What is proved stands in specs/Demand2.antt.
-use Prim.Native.Nat.{ℕ, _+_, _-_, _*_, _/_, _^_, _≤_}
+use Prim.Native.Nat.{ℕ, _+_, _-_, _*_, _/_, _^_, _≤_, _<_}
 use mathlib.Core.Path.{_≡_, refl, sym, ap, ap₂, _∙_}
 use mathlib.Core.Bool.{Bool, true, false}
 use mathlib.Core.List.{List, [], _∷_, _++_}
@@ -31,11 +31,21 @@ use Rattle.driver.specs.declared.machine.Next.the-variants.{Nothing}
 use Rattle.driver.specs.Refusals.{commandRefusal, startRefusal}
 use Rattle.driver.specs.Writes.{write, unlock, lastWrite, writeCount, writesOf, sixPlaces, commandWrites}
 use Rattle.driver.specs.Machine.{addressOf, confirmAfter, bitSeven, bitWanted, startOf, mostPolls, countFits, inRange, step, matches, pollingOf, confirmingOf, phaseOf, stepOf}
-use Rattle.driver.specs.Talk.{Stepping, AsSaid, writeCycles, shownAfter, Told, talk}
+use Rattle.driver.specs.Talk.{Stepping, AsSaid, writeCycles, shownAfter, Told, talk, heard}
 use Rattle.driver.proofs.Asked.{asking, begun}
 use Rattle.driver.proofs.Theorems as Theorems
-use Rattle.demands.specs.Calls.{onBus, refusedCycle, toWrite, StepCall, ToStep, toStep, AsPromised}
+use Rattle.demands.specs.Calls.{onBus, refusedCycle, toWrite, StepCall, ToStep, toStep, AsPromised, ToStart, toStart, refusedStart}
 use Rattle.demands.specs.Demand2.{IdleUnprotected, StartedDriver, startAsked, operationAsked, polls, cyclesAtMost, ChipFor, firstNamed, talked, noRead, Demand2}
+use Rattle.station.specs.declared.machine.DriverNumbers.{DriverNumbers}
+use Rattle.station.specs.declared.machine.StartNumbers.{StartNumbers}
+use Rattle.station.specs.declared.machine.StepNumbers.{StepNumbers}
+use Rattle.station.specs.Machine.{driverNumbers, driverOf, stepNumbers, steppedOf}
+use Rattle.station.specs.Cycle.{high, deviceNumbers}
+use Rattle.station.specs.Loop.{Looped, toldNumbers, loop, heardNumbers, loopHearing}
+use Rattle.station.proofs.Back.{driver-back, step-of-driver, next-back, taken-numbers}
+use Rattle.station.proofs.Loop.{loop-is-talk, hearing-is-heard}
+use Rattle.demands.specs.Controller.{StationStartCall, onStation}
+use Rattle.demands.proofs.Controller.{station-left}
 
 -- ---- a command's writes together
 -- the first count of six places are the writes
@@ -188,6 +198,59 @@ same-step : (c e : StepCall) → toStep c .driver ≡ toStep e .driver
     → stepOf (toStep c .driver) (toStep c .read) ≡ stepOf (toStep c .driver) (toStep e .read) → c .back ≡ e .back
 same-step c e same h = c .promise ∙ (h ∙ (ap (λ (d : Driver). stepOf d (toStep e .read)) same ∙ sym (e .promise)))
 
+-- the driver of a start
+abbrev driverStarted : ToStart → Driver
+driverStarted g = startOf (g .part) (g .command) (g .address) (g .word) (g .p) .driver
+
+-- ---- the C controller's loop, from the numbers of a start on
+begun-numbers : (c : StationStartCall) → c .back .driver ≡ driverNumbers (driverStarted (toStart (c .given)))
+begun-numbers c = ap (λ (t : StartNumbers). t .driver) (c .promise)
+
+-- they mean the driver
+names-driver : (g : ToStart) (v : DriverNumbers) → v ≡ driverNumbers (driverStarted g) → driverOf v ≡ driverStarted g
+names-driver g v b = ap driverOf b ∙ driver-back (driverStarted g)
+
+module _ (g : ToStart) (v : DriverNumbers) (b : v ≡ driverNumbers (driverStarted g)) (wp read n : ℕ) where
+  -- its first step is the driver's
+  first-step : steppedOf v read ≡ stepNumbers (stepOf (driverStarted g) read)
+  first-step = ap (λ (x : DriverNumbers). steppedOf x read) b ∙ step-of-driver (driverStarted g) read
+
+  loops : (cells : List ℕ) (d : Device)
+      → loop (g .part) wp n (steppedOf v read) cells (deviceNumbers d) ≡ toldNumbers (talk stepOf (g .part) (high wp) n (stepOf (driverStarted g) read) (chip cells d))
+  loops cells d =
+      ap (λ (s : StepNumbers). loop (g .part) wp n s cells (deviceNumbers d)) first-step
+      ∙ loop-is-talk wp (g .part) n (stepOf (driverStarted g) read) (next-back (driverStarted g) read) (chip cells d)
+
+  hears : (f : ℕ → ℕ) → loopHearing wp f n (steppedOf v read) ≡ heardNumbers (heard stepOf (high wp) f n (stepOf (driverOf v) read))
+  hears f =
+      ap (loopHearing wp f n) first-step
+      ∙ (hearing-is-heard wp f n (stepOf (driverStarted g) read) (next-back (driverStarted g) read)
+      ∙ ap (λ (d : Driver). heardNumbers (heard stepOf (high wp) f n (stepOf d read))) (sym (names-driver g v b)))
+
+-- a driver that steps by its definition steps as promised
+as-defined : AsPromised stepOf
+as-defined = record { call = λ d v t. stepped d v; gave = λ d v t. refl; handed = λ d v t. refl }
+
+-- the driver that a C controller has started, stepped by its definition
+abbrev from-C : (c : StationStartCall) → refusedStart (toStart (c .given)) ≡ 0 → (read : ℕ) → read < 2 ^ 16 → StartedDriver
+from-C c accepted read w =
+    let g = toStart (c .given) in
+    record {
+      start =
+          record {
+            lifetimes = tt;
+            given = c .given;
+            back = startOf (g .part) (g .command) (g .address) (g .word) (g .p);
+            ends = c .ends;
+            promise = refl;
+          };
+      accepted = accepted;
+      steps = stepOf;
+      promised = as-defined;
+      read = read;
+      word = w;
+    }
+
 -- ---- together
 pub demand-2 : Demand2
 unfolding cycleOf acceptedOf
@@ -217,9 +280,26 @@ demand-2 =
       driver-means = λ s wp f words n enough. let g = startAsked s in
           rw (first-is s)
           (Theorems.means (g .part) (g .command) (g .address) (g .word) (g .p) (s .accepted) wp (s .steps) (as-said (s .steps) (s .promised)) f words (s .read) (s .word) n enough);
-      definition-is-promised = record { call = λ d v t. stepped d v; gave = λ d v t. refl; handed = λ d v t. refl };
+      definition-is-promised = as-defined;
       value-ignored = λ c e same none. let d = toStep c .driver in let u = toStep c .read in let v = toStep e .read in
           same-step c e same (in-range d u v (λ _. ignores d u v (d .phase) none));
       low-bits-count = λ c e same alike. let d = toStep c .driver in let u = toStep c .read in let v = toStep e .read in
           same-step c e same (in-range d u v (λ z. counts d u v (d .phase) (bits d u v alike z) alike));
+      station-cycle-acts = λ c accepted. let g = onStation c in station-left c ∙ taken-numbers (g .part) (g .cells) (g .device) (g .cycle) accepted;
+      station-starts = λ c accepted h wp level read n w enough. let g = toStart (c .given) in
+          ap (λ (t : Looped). startedIn (g .part) (chip (h .cells) (h .device)) (t .cycles)) (loops g (c .back .driver) (begun-numbers c) wp read n (h .cells) (h .device))
+          ∙ rw level (starts (from-C c accepted read w) h n enough);
+      station-succeeds = λ c accepted h wp level same read n w enough. let g = toStart (c .given) in let i = h .ready in
+          loops g (c .back .driver) (begun-numbers c) wp read n (h .cells) (h .device)
+          ∙ rw level (ap toldNumbers (Theorems.succeeds (g .part) (g .command) (g .address) (g .word) (g .p) (h .wp) (h .cells) (h .device) accepted (i .whole) (i .rests) (i .heeded) same n read enough));
+      station-ends = λ c accepted wp f words read n w enough. let g = toStart (c .given) in let b = begun-numbers c in
+          let m = as-said stepOf as-defined in (
+            rw (names-driver g (c .back .driver) b)
+                (Theorems.always-ends (g .part) (g .command) (g .address) (g .word) (g .p) accepted (high wp) stepOf m f words read w n enough),
+            (
+              rw (names-driver g (c .back .driver) b)
+                  (Theorems.means (g .part) (g .command) (g .address) (g .word) (g .p) accepted (high wp) stepOf m f words read w n enough),
+              hears g (c .back .driver) b wp read n f,
+            ),
+          );
     }

@@ -1,5 +1,4 @@
 -- Demand 3 is met. What is proved stands in specs/Demand3.antt.
-use Prim.Native.Nat.{ℕ}
 use mathlib.Core.Path.{_≡_, refl, _∙_}
 use mathlib.Core.Bool.{Bool, true, false}
 use native.Mathlib.Omega.{arith}
@@ -12,6 +11,7 @@ use Rattle.billing.specs.File.{billOfFile}
 use Rattle.invoice.proofs.Billed.{invoice, partly, least, job-rivals, table-time}
 use Rattle.invoice.proofs.Alone.{sector-by-sector}
 use Rattle.demands.specs.Calls.{ToLoad, toLoad, toLoadFirst, refusedJob, ToRead, toBill, jobAsked, refusedFile}
+use Rattle.demands.specs.Controller.{stationToLoad, stationToLoadFirst, stationToBill}
 use Rattle.demands.specs.Demand3.{Demand3}
 
 -- a file that is not refused: its job is not, and its bill is the job's
@@ -48,5 +48,12 @@ demand-3 =
           sector-by-sector (j .part) (j .cells) (j .wp) (j .p) (j .first) (j .image) accepted;
       bill-file-bills = λ c accepted. let j = jobAsked (toBill c) in
           let w = taken (toBill c) accepted in
+          rw (c .promise ∙ w .1) (invoice (j .part) (j .cells) (j .first) (j .image) (j .wp) (j .p) (w .0));
+      station-load-bills = λ c accepted. let j = stationToLoad c in
+          rw (c .promise .0, c .promise .1) (invoice (j .part) (j .cells) (j .first) (j .image) (j .wp) (j .p) accepted);
+      station-load-first-plays = λ c accepted. let j = stationToLoadFirst c .job in
+          rw (c .promise .0, c .promise .1) (partly (j .part) (j .cells) (j .first) (j .image) (j .wp) (j .p) accepted (stationToLoadFirst c .k));
+      station-bill-bills = λ c accepted. let j = jobAsked (stationToBill c) in
+          let w = taken (stationToBill c) accepted in
           rw (c .promise ∙ w .1) (invoice (j .part) (j .cells) (j .first) (j .image) (j .wp) (j .p) (w .0));
     }

@@ -46,4 +46,16 @@ unique =
       station-write-address = station.write-address-unique;
       station-write-data = station.write-data-unique;
       station-write-answer = station.write-answer-unique;
+      station-start = station.start-unique;
+      station-step = station.step-unique;
+      station-fresh = station.fresh-unique;
+      station-read = station.read-unique;
+      station-write = station.write-unique;
+      station-idle = station.idle-unique;
+      station-cut = station.cut-unique;
+      station-load = station.load-unique;
+      station-load-first = station.load-first-unique;
+      station-job = station.job-unique;
+      station-image = station.image-unique;
+      station-bill = station.bill-unique;
     }

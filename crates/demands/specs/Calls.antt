@@ -11,7 +11,7 @@ use contract.Lifetimes.{Lfts}
 use borrow.Fn.Kinds.{PK, RK, Out, Dens, endedOf, resT}
 use denote.Triple.Clauses.{AtExit}
 use Rattle.parts.specs.Names.{BAD-FILE}
-use Rattle.parts.specs.Pick.{pick, _when_, _else_}
+use Rattle.parts.specs.Pick.{_when_, _else_}
 use Rattle.table.specs.Figures.{figureRefusal}
 use Rattle.table.proofs.part_row.Kinds as row-kinds
 use Rattle.table.proofs.part_row.Reads as row-reads

@@ -4,13 +4,15 @@
 -- function is proved to end for all arguments that its `requires` allows, and no exported function has one.
 use Prim.Native.Nat.{ℕ}
 use mathlib.Core.Path.{_≡_}
-use mathlib.Core.Bool.{false}
+use mathlib.Core.Bool.{true, false}
 use mathlib.Core.List.{[]}
-use Rattle.parts.specs.Names.{BAD-STATE, BAD-FILE}
-use Rattle.parts.specs.Pick.{_when_, _else_}
-use Rattle.parts.specs.Table.{noLine, rowFrom, partRefusal}
+use Rattle.parts.specs.Names.{BAD-STATE, BAD-FILE, WRONG-CELLS}
+use Rattle.parts.specs.Pick.{_when_, _else_, _unless_, _orElse_}
+use Rattle.parts.specs.Table.{noLine, rowFrom, partRefusal, rowOf}
 use Rattle.table.specs.Figures.{figure}
 use Rattle.table.specs.declared.figure.Figure.{Figure}
+use lib.Dec.{eqb}
+use lib.ListN.{length}
 use Rattle.parts.specs.declared.table.Found.{Found}
 use Rattle.chip.specs.Cycle.{Outcome, reply}
 use Rattle.driver.specs.declared.machine.Started.{Started}
@@ -25,7 +27,15 @@ use Rattle.job.specs.declared.bill.Bill.{Bill}
 use Rattle.job.specs.Bill.{Loaded, Reported, refusedBill, refusedReport}
 use Rattle.jobfile.specs.declared.trailer.JobFile.{JobFile}
 use Rattle.jobfile.specs.JobFile.{malformed, refused}
+use Rattle.station.specs.declared.machine.DriverNumbers.{DriverNumbers}
+use Rattle.station.specs.declared.machine.StartNumbers.{StartNumbers}
+use Rattle.station.specs.declared.machine.StepNumbers.{StepNumbers}
+use Rattle.station.specs.Machine.{driverNumbers, noDriverState}
+use Rattle.station.specs.Cycle.{Cycled}
 use Rattle.demands.specs.Calls.{BusCall, onBus, busLeft, refusedCycle, StartCall, StartWritingCall, toStart, refusedStart, StepCall, toStep, WritesCall, toWrite, refusedWrites, KthCall, StationAddressCall, StationDataCall, StationWriteCall, kthAsked, refusedKth, LoadCall, LoadFirstCall, toLoad, toLoadFirst, loadLeft, loadFirstLeft, refusedJob, RowCall, rowAsked, FigureCall, StationFigureCall, StationFigureAnswerCall, figureAsked, refusedFigure, FileCall, toRead, BillFileCall, toBill, refusedFile}
+use Rattle.demands.specs.Controller.{StationStartCall, StationStepCall, numbersToStep, numbersInRange, StationBusCall, onStation, stationLeft, meant, noDevice}
+use Rattle.demands.specs.Controller.{StationLoadCall, StationLoadFirstCall, stationToLoad, stationToLoadFirst, stationLoadLeft, stationLoadFirstLeft}
+use Rattle.demands.specs.Controller.{StationJobCall, stationToRead, StationBillCall, stationToBill}
 
 -- a call answers n, and where n is a refusal hands back what it should
 pub record Refuses (A : Type 0) (answer n : ℕ) (back should : A) : Type 0 where
@@ -36,6 +46,11 @@ pub record Refuses (A : Type 0) (answer n : ℕ) (back should : A) : Type 0 wher
 pub record RefusesState (d : Driver) (back : Step) : Type 0 where
   pub only : back .answer ≡ BAD-STATE → inRange d ≡ false
   pub beside : inRange d ≡ false → back ≡ step BAD-STATE d Nothing 0
+
+-- so does a C controller's, for numbers that are no state in range, and hands back the numbers as they came
+pub record RefusesNumbers (n : DriverNumbers) (back : StepNumbers) : Type 0 where
+  pub only : back .answer ≡ BAD-STATE → numbersInRange n ≡ false
+  pub beside : numbersInRange n ≡ false → back ≡ noDriverState n
 
 pub record Demand1 : Type 0 where
   -- A refused bus cycle answers its number, value 0 and the device as it came, and leaves the cells as they came.
@@ -84,3 +99,23 @@ pub record Demand1 : Type 0 where
   pub station-write-address-refuses : (c : StationAddressCall) → (refusedKth (kthAsked (c .given)) ≡ 0 → ⊥) → c .back ≡ 0
   pub station-write-data-refuses : (c : StationDataCall) → (refusedKth (kthAsked (c .given)) ≡ 0 → ⊥) → c .back ≡ 0
   pub station-write-answers : (c : StationWriteCall) → c .back ≡ refusedKth (kthAsked (c .given))
+  -- Its start and its step: a refused start hands back zeros; a step answers 5 exactly for numbers that are no state in range.
+  pub station-start-refuses : (c : StationStartCall) → let n = refusedStart (toStart (c .given)) in
+      Refuses StartNumbers (c .back .answer) n (c .back) (record { answer = n; driver = driverNumbers noDriver })
+  pub station-step-refuses : (c : StationStepCall) → RefusesNumbers (numbersToStep c .driver) (c .back)
+  -- Its bus cycles: a refused one answers its number, value 0 and the device's numbers as they came, and leaves the cells as they came.
+  pub station-cycle-refuses : (c : StationBusCall) → let g = onStation c in let n = refusedCycle (meant g) in
+      Refuses Cycled (stationLeft c .reply .answer) n (stationLeft c)
+      (record { cells = g .cells; reply = record { answer = n; value = 0; device = g .device } })
+  -- Numbers that are no device's are refused with 5, and 1 and 2 come first.
+  pub station-no-device : (c : StationBusCall) → let g = meant (onStation c) in noDevice (onStation c .device) ≡ true
+      → refusedCycle g ≡ (partRefusal (g .part) orElse WRONG-CELLS unless eqb (length (g .cells)) (rowOf (g .part) .cells) else BAD-STATE)
+  -- Its job, the second call, the job file and the bill of one: as the library's.
+  pub station-load-refuses : (c : StationLoadCall) → let j = stationToLoad c in let n = refusedJob j in
+      Refuses Loaded (c .back .answer) n (stationLoadLeft c) (record { cells = j .cells; bill = refusedBill n })
+  pub station-load-first-refuses : (c : StationLoadFirstCall) → let j = stationToLoadFirst c .job in let n = refusedJob j in
+      Refuses Reported (c .back .answer) n (stationLoadFirstLeft c) (record { cells = j .cells; report = refusedReport n })
+  pub station-job-refuses : (c : StationJobCall) → let n = BAD-FILE when malformed (stationToRead c .file) else 0 in
+      Refuses JobFile (c .back .answer) n (c .back) refused
+  pub station-bill-refuses : (c : StationBillCall) → let n = refusedFile (stationToBill c) in
+      Refuses Bill (c .back .answer) n (c .back) (refusedBill n)

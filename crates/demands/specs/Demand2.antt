@@ -27,6 +27,10 @@ use Rattle.driver.specs.Machine.{valueWanted, begun, moved, ended, stepOf}
 use Rattle.driver.specs.Talk.{Stepping, writeCycles, operationCycles, operationOf, completed, shownAfter, Told, told, talk, heard}
 use Rattle.driver.specs.Endings.{MustRaise, MustRaiseSeven, Ended, Meaning}
 use Rattle.demands.specs.Calls.{BusCall, onBus, busLeft, refusedCycle, WritesCall, toWrite, refusedWrites, StartCall, ToStart, toStart, refusedStart, StepCall, toStep, AsPromised}
+use Rattle.station.specs.Machine.{driverOf, steppedOf}
+use Rattle.station.specs.Cycle.{high, deviceNumbers}
+use Rattle.station.specs.Loop.{toldNumbers, loop, heardNumbers, loopHearing}
+use Rattle.demands.specs.Controller.{StationBusCall, onStation, stationLeft, meant, StationStartCall}
 
 -- a chip of the part's number of cells that is idle, at a WP# level that does not protect what the command is aimed at
 pub record IdleUnprotected (part command address : ℕ) (cells : List ℕ) (d : Device) (wp : Bool) : Type 0 where
@@ -159,3 +163,30 @@ pub record Demand2 : Type 0 where
   -- are the same.
   pub low-bits-count : (c e : StepCall) → let g = toStep c in let h = toStep e in let w = rowOf (g .driver .part) .width in
       g .driver ≡ h .driver → valueOf w (g .read) ≡ valueOf w (h .read) → c .back ≡ e .back
+  -- A C controller's bus cycle that is not refused gives the same, as numbers, on the device that its numbers mean.
+  pub station-cycle-acts : (c : StationBusCall) → let g = meant (onStation c) in refusedCycle g ≡ 0
+      → let r = rowOf (g .part) in
+      let o = actedOf r (afterTime r (chip (g .cells) (g .device)) (g .cycle .elapsed)) (g .cycle .wp) (g .cycle .action) in
+      stationLeft c ≡ record { cells = o .cells; reply = record { answer = 0; value = o .reply .value; device = deviceNumbers (o .reply .device) } }
+  -- The cycles of a C controller that steps from its start on, sends each cycle that is named to the chip and gives what it
+  -- was shown to the next step (`loop`), start the operation asked for and no other; and it succeeds, as a driver does.
+  pub station-starts : (c : StationStartCall) → let g = toStart (c .given) in refusedStart g ≡ 0
+      → (h : ChipFor g) (wp : ℕ) → high wp ≡ h .wp → (read n : ℕ) → read < 2 ^ 16 → cyclesAtMost g ≤ n
+      → startedIn (g .part) (chip (h .cells) (h .device))
+      (loop (g .part) wp n (steppedOf (c .back .driver) read) (h .cells) (deviceNumbers (h .device)) .cycles)
+      ≡ operationAsked g ∷ []
+  pub station-succeeds : (c : StationStartCall) → let g = toStart (c .given) in refusedStart g ≡ 0
+      → (h : ChipFor g) (wp : ℕ) → high wp ≡ h .wp
+      → shownAfter (rowOf (g .part)) (g .command) (g .address) (g .word) (h .cells)
+      ≡ valueWanted (rowOf (g .part)) (g .command) (g .word)
+      → (read n : ℕ) → read < 2 ^ 16 → cyclesAfterN g ≤ n
+      → loop (g .part) wp n (steppedOf (c .back .driver) read) (h .cells) (deviceNumbers (h .device))
+      ≡ toldNumbers (endedWith g h (polls g) Done)
+  -- Whatever is replied, it has ended after as many cycles as a driver: what it sent, and its last step, are the numbers of
+  -- one that `Ended` and `Meaning` speak of.
+  pub station-ends : (c : StationStartCall) → let g = toStart (c .given) in refusedStart g ≡ 0
+      → (wp : ℕ) (f : ℕ → ℕ) → ((i : ℕ) → f i < 2 ^ 16) → (read n : ℕ) → read < 2 ^ 16 → cyclesAtMost g ≤ n
+      → let t = heard stepOf (high wp) f n (stepOf (driverOf (c .back .driver)) read) in
+      Ended stepOf (g .part) (g .command) (g .address) (g .word) (g .p) (high wp) t
+      × (Meaning (rowOf (g .part)) (g .command) (g .word) (g .p) f (t .last)
+      × (loopHearing wp f n (steppedOf (c .back .driver) read) ≡ heardNumbers t))

@@ -1,7 +1,7 @@
 -- Demand 3, the invoice. For every accepted job on an idle chip with no power cut: the range ends holding the image, no
 -- other cell has changed; the bill's erases, programs, polls, scans, confirming reads and time are those of the cycles sent
 -- and follow the formulas; and no list of bus cycles does it in less.
-use Prim.Native.Nat.{ℕ, _+_, _*_, _/_, _≤_}
+use Prim.Native.Nat.{_+_, _*_, _/_, _≤_}
 use mathlib.Core.Path.{_≡_}
 use mathlib.Core.List.{List}
 use Rattle.parts.specs.Names.{PROGRAM, SECTOR}
@@ -19,6 +19,7 @@ use Rattle.job.specs.Bill.{Loaded, loadOf}
 use Rattle.invoice.specs.Started.{tableTime}
 use Rattle.invoice.specs.Invoice.{sentCycles, sectorsAlone, Invoice, Partly, Rival}
 use Rattle.demands.specs.Calls.{LoadCall, toLoad, loadLeft, LoadFirstCall, toLoadFirst, loadFirstLeft, refusedJob, BillFileCall, toBill, jobAsked, refusedFile}
+use Rattle.demands.specs.Controller.{StationLoadCall, StationLoadFirstCall, stationToLoad, stationToLoadFirst, stationLoadLeft, stationLoadFirstLeft, StationBillCall, stationToBill}
 
 -- what a job leaves on the cells, beside a bill
 abbrev pub withBill : Bill → Loaded → Loaded
@@ -53,4 +54,11 @@ pub record Demand3 : Type 0 where
       ≡ sectorsAlone (j .part) (j .cells) (j .wp) (j .p) (length (j .image) / sectorSize (rowOf (j .part) .width)) (j .first) (j .image)
   -- A job file's bill is that of the job that it asks for, on a blank bench part.
   pub bill-file-bills : (c : BillFileCall) → let j = jobAsked (toBill c) in refusedFile (toBill c) ≡ 0
+      → Invoice (j .part) (j .cells) (j .first) (j .image) (j .wp) (j .p) (withBill (c .back) (loadOf (j .part) (j .cells) (j .first) (j .image) (j .wp) (j .p)))
+  -- The C controller's job, its second call, and its bill of a job file.
+  pub station-load-bills : (c : StationLoadCall) → let j = stationToLoad c in refusedJob j ≡ 0
+      → Invoice (j .part) (j .cells) (j .first) (j .image) (j .wp) (j .p) (stationLoadLeft c)
+  pub station-load-first-plays : (c : StationLoadFirstCall) → let j = stationToLoadFirst c .job in refusedJob j ≡ 0
+      → Partly (j .part) (j .cells) (j .first) (j .image) (j .wp) (j .p) (stationToLoadFirst c .k) (stationLoadFirstLeft c)
+  pub station-bill-bills : (c : StationBillCall) → let j = jobAsked (stationToBill c) in refusedFile (stationToBill c) ≡ 0
       → Invoice (j .part) (j .cells) (j .first) (j .image) (j .wp) (j .p) (withBill (c .back) (loadOf (j .part) (j .cells) (j .first) (j .image) (j .wp) (j .p)))

@@ -1,4 +1,5 @@
 pub mod Calls
+pub mod Controller
 pub mod Demand1
 pub mod Answers
 pub mod Demand2

@@ -71,8 +71,32 @@ use Rattle.station.proofs.station_write_address.Kinds as c-address-kinds
 use Rattle.station.proofs.station_write_address.Reads as c-address-reads
 use Rattle.station.proofs.station_write_data.Kinds as c-data-kinds
 use Rattle.station.proofs.station_write_data.Reads as c-data-reads
-use Rattle.station.proofs.station_write_answer.Kinds as c-write-kinds
-use Rattle.station.proofs.station_write_answer.Reads as c-write-reads
+use Rattle.station.proofs.station_write_answer.Kinds as c-write-answer-kinds
+use Rattle.station.proofs.station_write_answer.Reads as c-write-answer-reads
+use Rattle.station.proofs.station_start.Kinds as c-start-kinds
+use Rattle.station.proofs.station_start.Reads as c-start-reads
+use Rattle.station.proofs.station_step.Kinds as c-step-kinds
+use Rattle.station.proofs.station_step.Reads as c-step-reads
+use Rattle.station.proofs.station_fresh.Kinds as c-fresh-kinds
+use Rattle.station.proofs.station_fresh.Reads as c-fresh-reads
+use Rattle.station.proofs.station_read.Kinds as c-read-kinds
+use Rattle.station.proofs.station_read.Reads as c-read-reads
+use Rattle.station.proofs.station_write.Kinds as c-write-kinds
+use Rattle.station.proofs.station_write.Reads as c-write-reads
+use Rattle.station.proofs.station_idle.Kinds as c-idle-kinds
+use Rattle.station.proofs.station_idle.Reads as c-idle-reads
+use Rattle.station.proofs.station_cut.Kinds as c-cut-kinds
+use Rattle.station.proofs.station_cut.Reads as c-cut-reads
+use Rattle.station.proofs.station_load.Kinds as c-load-kinds
+use Rattle.station.proofs.station_load.Reads as c-load-reads
+use Rattle.station.proofs.station_load_first.Kinds as c-load-first-kinds
+use Rattle.station.proofs.station_load_first.Reads as c-load-first-reads
+use Rattle.station.proofs.station_job.Kinds as c-job-kinds
+use Rattle.station.proofs.station_job.Reads as c-job-reads
+use Rattle.station.proofs.station_image.Kinds as c-image-kinds
+use Rattle.station.proofs.station_image.Reads as c-image-reads
+use Rattle.station.proofs.station_bill.Kinds as c-bill-kinds
+use Rattle.station.proofs.station_bill.Reads as c-bill-reads
 
 -- any two results that the promise allows are equal
 abbrev pub OneResult : (n : ℕ) (ps : List (PK n)) (r : RK n) → Out n ps r → Type 0
@@ -128,4 +152,16 @@ pub record Unique : Type 0 where
   pub station-figure-answer : OneResult 0 c-answer-kinds.ps c-answer-kinds.r c-answer-reads.Post
   pub station-write-address : OneResult 0 c-address-kinds.ps c-address-kinds.r c-address-reads.Post
   pub station-write-data : OneResult 0 c-data-kinds.ps c-data-kinds.r c-data-reads.Post
-  pub station-write-answer : OneResult 0 c-write-kinds.ps c-write-kinds.r c-write-reads.Post
+  pub station-write-answer : OneResult 0 c-write-answer-kinds.ps c-write-answer-kinds.r c-write-answer-reads.Post
+  pub station-start : OneResult 0 c-start-kinds.ps c-start-kinds.r c-start-reads.Post
+  pub station-step : OneResult 0 c-step-kinds.ps c-step-kinds.r c-step-reads.Post
+  pub station-fresh : OneResult 0 c-fresh-kinds.ps c-fresh-kinds.r c-fresh-reads.Post
+  pub station-read : OneOutcome 1 c-read-kinds.ps c-read-kinds.r c-read-reads.Post (λ κs s. s .1 .0 .now)
+  pub station-write : OneOutcome 1 c-write-kinds.ps c-write-kinds.r c-write-reads.Post (λ κs s. s .1 .0 .now)
+  pub station-idle : OneOutcome 1 c-idle-kinds.ps c-idle-kinds.r c-idle-reads.Post (λ κs s. s .1 .0 .now)
+  pub station-cut : OneOutcome 1 c-cut-kinds.ps c-cut-kinds.r c-cut-reads.Post (λ κs s. s .1 .0 .now)
+  pub station-load : OneOutcome 2 c-load-kinds.ps c-load-kinds.r c-load-reads.Post (λ κs s. s .1 .0 .now)
+  pub station-load-first : OneOutcome 2 c-load-first-kinds.ps c-load-first-kinds.r c-load-first-reads.Post (λ κs s. s .1 .0 .now)
+  pub station-job : OneResult 1 c-job-kinds.ps c-job-kinds.r c-job-reads.Post
+  pub station-image : OneOutcome 2 c-image-kinds.ps c-image-kinds.r c-image-reads.Post (λ κs s. s .1 .1 .0 .now)
+  pub station-bill : OneResult 1 c-bill-kinds.ps c-bill-kinds.r c-bill-reads.Post

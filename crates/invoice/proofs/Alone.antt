@@ -2,14 +2,13 @@
 use Prim.Native.Nat.{ℕ, zero, suc, _+_, _*_, _/_, _≤_}
 use mathlib.Core.Path.{_≡_, refl, ap, _∙_}
 use mathlib.Core.Bool.{Bool}
-use mathlib.Core.List.{List, _++_, map-append}
+use mathlib.Core.List.{List, map-append}
 use native.Mathlib.Nat.{suc-mul, div-add-mod'}
 use native.Mathlib.Omega.{arith}
 use lib.ListN.{length, take, drop, length-drop}
 use lib.Seq.{length-take-le}
 use Rattle.parts.specs.Width.{sectorSize}
 use Rattle.parts.specs.Table.{rowOf}
-use Rattle.chip.specs.declared.cycle.Cycle.{Cycle}
 use Rattle.job.specs.Refusal.{jobRefusal}
 use Rattle.job.specs.Run.{Sent}
 use Rattle.job.specs.Bill.{jobFrom}

@@ -15,6 +15,7 @@ ghost use Rattle.job.specs.Formulas.{operationTime};
 ghost use Rattle.job.specs.Bill.{FullTimeFits, billOf, firstFew, fullOf, jobFrom, loadOf, refusedBill, refusedReport, reportOf, reported};
 
 // The bill: µs saved and spent, then counts, the sum, and 0 or the refusal.
+#[repr(C)]
 pub struct Bill {
     pub saved: u64,
     pub spent: u64,
@@ -28,6 +29,7 @@ pub struct Bill {
 }
 
 // What the second call hands back: 0 or the refusal, how many cycles were sent, the last one and its reply, counts and µs so far.
+#[repr(C)]
 pub struct Report {
     pub answer: u32,
     pub sent: u64,

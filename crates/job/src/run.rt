@@ -26,6 +26,7 @@ pub struct Tally {
 }
 
 // The last cycle: kind 0 none, 1 read, 2 write.
+#[repr(C)]
 pub struct Last {
     pub kind: u32,
     pub elapsed: u32,

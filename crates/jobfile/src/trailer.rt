@@ -11,6 +11,7 @@ ghost use Rattle.jobfile.specs.JobFile.{jobOf, refused, wrong};
 
 // What a job file asks: 0 or 13, and beside 0 the part, the WP# level, the first address, p,
 // and the image by its first byte in the file and its number of values.
+#[repr(C)]
 pub struct JobFile {
     pub answer: u32,
     pub part: u32,

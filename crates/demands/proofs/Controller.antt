@@ -1,0 +1,63 @@
+-- The C controller's calls do what the library's do. What is proved stands in specs/Controller.antt.
+use mathlib.Core.Path.{_≡_, sym, ap, _∙_}
+use Rattle.chip.specs.Cycle.{Outcome, cycleOf}
+use Rattle.driver.specs.Machine.{startOf, stepOf}
+use Rattle.job.specs.Bill.{Loaded, Reported, loadOf, reportOf}
+use Rattle.jobfile.specs.JobFile.{jobOf, valuesOf}
+use Rattle.billing.specs.File.{billOfFile}
+use Rattle.station.specs.Machine.{startNumbers, stepNumbers, steppedOf}
+use Rattle.station.specs.Cycle.{cycledNumbers}
+use Rattle.station.proofs.Back.{driver-back, device-back}
+use Rattle.demands.specs.Calls.{BusCall, OnBus, onBus, busLeft, ToStart, ToStep, LoadCall, LoadFirstCall, ToLoad, toLoad, ToLoadFirst, toLoadFirst, loadLeft, loadFirstLeft, ToRead, ToReadImage}
+use Rattle.demands.specs.Controller.{StationBusCall, byRead, byWrite, byIdle, byCut, onStation, stationLeft, meant, Controller}
+use Rattle.demands.specs.Controller.{StationLoadCall, StationLoadFirstCall, stationToLoad, stationToLoadFirst, stationLoadLeft, stationLoadFirstLeft}
+
+-- ---- what is left, by what is asked
+abbrev pub cycleAsked : OnBus → Outcome
+cycleAsked g = cycleOf (g .part) (g .cells) (g .device) (g .cycle)
+
+abbrev pub loadAsked : ToLoad → Loaded
+loadAsked j = loadOf (j .part) (j .cells) (j .first) (j .image) (j .wp) (j .p)
+
+abbrev pub loadFirstAsked : ToLoadFirst → Reported
+loadFirstAsked g = let j = g .job in reportOf (j .part) (j .cells) (j .first) (j .image) (j .wp) (j .p) (g .k)
+
+bus-left : (l : BusCall) → busLeft l ≡ cycleAsked (onBus l)
+bus-left l = rw (l .promise .0, l .promise .1)
+
+pub station-left : (c : StationBusCall) → stationLeft c ≡ cycledNumbers (onStation c .device) (cycleAsked (meant (onStation c)))
+station-left (byRead c) = rw (c .promise .0, c .promise .1)
+station-left (byWrite c) = rw (c .promise .0, c .promise .1)
+station-left (byIdle c) = rw (c .promise .0, c .promise .1)
+station-left (byCut c) = rw (c .promise .0, c .promise .1)
+
+pub station-load-left : (c : StationLoadCall) → stationLoadLeft c ≡ loadAsked (stationToLoad c)
+station-load-left c = rw (c .promise .0, c .promise .1)
+
+pub station-load-first-left : (c : StationLoadFirstCall) → stationLoadFirstLeft c ≡ loadFirstAsked (stationToLoadFirst c)
+station-load-first-left c = rw (c .promise .0, c .promise .1)
+
+load-left : (l : LoadCall) → loadLeft l ≡ loadAsked (toLoad l)
+load-left l = rw (l .promise .0, l .promise .1)
+
+load-first-left : (l : LoadFirstCall) → loadFirstLeft l ≡ loadFirstAsked (toLoadFirst l)
+load-first-left l = rw (l .promise .0, l .promise .1)
+
+-- ---- together
+pub controller : Controller
+unfolding steppedOf
+controller =
+    record {
+      start-same = λ c l e.
+          c .promise ∙ (ap (λ (g : ToStart). startNumbers (startOf (g .part) (g .command) (g .address) (g .word) (g .p))) e ∙ sym (ap startNumbers (l .promise)));
+      step-same = λ c l b e. c .promise ∙ rw b (ap (λ (g : ToStep). stepNumbers (stepOf (g .driver) (g .read))) e ∙ sym (ap stepNumbers (l .promise)));
+      cycle-same = λ c l e. let n = onStation c .device in
+          station-left c ∙ (ap (λ (g : OnBus). cycledNumbers n (cycleAsked g)) e ∙ sym (ap (cycledNumbers n) (bus-left l)));
+      load-same = λ c l e. station-load-left c ∙ (ap loadAsked e ∙ sym (load-left l));
+      load-first-same = λ c l e. station-load-first-left c ∙ (ap loadFirstAsked e ∙ sym (load-first-left l));
+      job-same = λ c l e. c .promise ∙ (ap (λ (g : ToRead). jobOf (g .file)) e ∙ sym (l .promise));
+      image-same = λ c l e. c .promise ∙ (ap (λ (g : ToReadImage). valuesOf (g .file) (g .start) (g .room)) e ∙ sym (l .promise));
+      bill-same = λ c l e. c .promise ∙ (ap (λ (g : ToRead). billOfFile (g .file)) e ∙ sym (l .promise));
+      driver-returns = driver-back;
+      device-returns = device-back;
+    }
