@@ -1,12 +1,13 @@
 -- The C controller's calls do what the library's do. What is proved stands in specs/Controller.antt.
 use mathlib.Core.Path.{_≡_, sym, ap, _∙_}
+use Rattle.chip.specs.Device.{freshDevice}
 use Rattle.chip.specs.Cycle.{Outcome, cycleOf}
 use Rattle.driver.specs.Machine.{startOf, stepOf}
 use Rattle.job.specs.Bill.{Loaded, Reported, loadOf, reportOf}
 use Rattle.jobfile.specs.JobFile.{jobOf, valuesOf}
 use Rattle.billing.specs.File.{billOfFile}
 use Rattle.station.specs.Machine.{startNumbers, stepNumbers, steppedOf}
-use Rattle.station.specs.Cycle.{cycledNumbers}
+use Rattle.station.specs.Cycle.{deviceOf, cycledNumbers}
 use Rattle.station.proofs.Back.{driver-back, device-back}
 use Rattle.demands.specs.Calls.{BusCall, OnBus, onBus, busLeft, ToStart, ToStep, LoadCall, LoadFirstCall, ToLoad, toLoad, ToLoadFirst, toLoadFirst, loadLeft, loadFirstLeft, ToRead, ToReadImage}
 use Rattle.demands.specs.Controller.{StationBusCall, byRead, byWrite, byIdle, byCut, onStation, stationLeft, meant, Controller}
@@ -51,6 +52,7 @@ controller =
       start-same = λ c l e.
           c .promise ∙ (ap (λ (g : ToStart). startNumbers (startOf (g .part) (g .command) (g .address) (g .word) (g .p))) e ∙ sym (ap startNumbers (l .promise)));
       step-same = λ c l b e. c .promise ∙ rw b (ap (λ (g : ToStep). stepNumbers (stepOf (g .driver) (g .read))) e ∙ sym (ap stepNumbers (l .promise)));
+      fresh-meant = λ c. ap deviceOf (c .promise) ∙ device-back freshDevice;
       cycle-same = λ c l e. let n = onStation c .device in
           station-left c ∙ (ap (λ (g : OnBus). cycledNumbers n (cycleAsked g)) e ∙ sym (ap (cycledNumbers n) (bus-left l)));
       load-same = λ c l e. station-load-left c ∙ (ap loadAsked e ∙ sym (load-left l));

@@ -10,6 +10,7 @@ use Rattle.parts.specs.Pick.{_when_, _else_}
 use Rattle.chip.specs.declared.device.Device.{Device}
 use Rattle.chip.specs.declared.cycle.Action.the-variants.{Read, Write, Idle, Cut}
 use Rattle.chip.specs.declared.cycle.Cycle.{Cycle}
+use Rattle.chip.specs.Device.{freshDevice}
 use Rattle.chip.specs.Cycle.{cycle}
 use Rattle.driver.specs.declared.machine.Driver.{Driver}
 use Rattle.driver.specs.Machine.{inRange}
@@ -22,6 +23,8 @@ use Rattle.station.proofs.station_start.Kinds as start-kinds
 use Rattle.station.proofs.station_start.Reads as start-reads
 use Rattle.station.proofs.station_step.Kinds as step-kinds
 use Rattle.station.proofs.station_step.Reads as step-reads
+use Rattle.station.proofs.station_fresh.Kinds as fresh-kinds
+use Rattle.station.proofs.station_fresh.Reads as fresh-reads
 use Rattle.station.proofs.station_read.Kinds as read-kinds
 use Rattle.station.proofs.station_read.Reads as read-reads
 use Rattle.station.proofs.station_write.Kinds as write-kinds
@@ -48,7 +51,7 @@ use Rattle.demands.specs.Calls.{FileCall, ToRead, toRead, ImageCall, ToR
 abbrev pub StationStartCall : Type 0
 StationStartCall = Call 0 start-kinds.ps start-kinds.r start-reads.Post
 
--- ---- station_step(driver, read)
+-- ---- station_step(state, read)
 abbrev pub StationStepCall : Type 0
 StationStepCall = Call 0 step-kinds.ps step-kinds.r step-reads.Post
 
@@ -62,6 +65,10 @@ numbersToStep c = record { driver = c .given .0; read = c .given .1 .0 }
 -- numbers of a driver's state in range: a phase above 5 is none
 abbrev pub numbersInRange : DriverNumbers → Bool
 numbersInRange n = false when ltb 5 (n .phase) else inRange (driverOf n)
+
+-- ---- station_fresh()
+abbrev pub StationFreshCall : Type 0
+StationFreshCall = Call 0 fresh-kinds.ps fresh-kinds.r fresh-reads.Post
 
 -- ---- station_read(part, cells, device, elapsed, wp, address), station_write(.., address, data), station_idle(..), station_cut(.., scar)
 pub data StationBusCall : Type 0 where
@@ -156,6 +163,8 @@ pub record Controller : Type 0 where
   -- A step of numbers that have a phase is that of the driver that they mean.
   pub step-same : (c : StationStepCall) (l : StepCall) → let g = numbersToStep c in ltb 5 (g .driver .phase) ≡ false
       → record { driver = driverOf (g .driver); read = g .read } ≡ toStep l → c .back ≡ stepNumbers (l .back)
+  -- A fresh device's numbers mean it.
+  pub fresh-meant : (c : StationFreshCall) → deviceOf (c .back) ≡ freshDevice
   -- A bus cycle is that of the device that the numbers mean.
   pub cycle-same : (c : StationBusCall) (l : BusCall) → meant (onStation c) ≡ onBus l
       → stationLeft c ≡ cycledNumbers (onStation c .device) (busLeft l)

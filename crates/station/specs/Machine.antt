@@ -54,16 +54,16 @@ abbrev pub driverOf : DriverNumbers → Driver
 driverOf n = driver (n .part) (n .command) (n .address) (n .«data») (n .p) (phaseAt (n .phase)) (n .count)
 
 -- ---- the cycle that a step names: none, a read or a write
-abbrev pub cycleNumbers : ℕ → ℕ → ℕ → ℕ → CycleNumbers
-cycleNumbers k e a x = record { kind = k; elapsed = e; address = a; «data» = x }
+abbrev pub cycleToSend : ℕ → ℕ → ℕ → ℕ → CycleNumbers
+cycleToSend k e a x = record { kind = k; elapsed = e; address = a; «data» = x }
 
 abbrev pub noCycle : CycleNumbers
-noCycle = cycleNumbers NO-CYCLE 0 0 0
+noCycle = cycleToSend NO-CYCLE 0 0 0
 
 -- a step sends nothing but reads and writes
 abbrev pub sentNumbers : ℕ → Action → CycleNumbers
-sentNumbers e (Read a) = cycleNumbers A-READ e a 0
-sentNumbers e (Write a x) = cycleNumbers A-WRITE e a x
+sentNumbers e (Read a) = cycleToSend A-READ e a 0
+sentNumbers e (Write a x) = cycleToSend A-WRITE e a x
 sentNumbers e Idle = noCycle
 sentNumbers e (Cut s) = noCycle
 
