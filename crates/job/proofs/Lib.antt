@@ -1,5 +1,6 @@
 pub mod Turns
 pub mod InJob
+pub mod InRange
 pub mod Loop
 pub mod Rest
 pub mod Operates

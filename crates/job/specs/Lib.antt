@@ -7,3 +7,4 @@ pub mod Run
 pub mod Sent
 pub mod Formulas
 pub mod Bill
+pub mod Loading
