@@ -1,6 +1,7 @@
 pub mod Turns
 pub mod InJob
 pub mod InRange
+pub mod Falls
 pub mod Loop
 pub mod Rest
 pub mod Operates
