@@ -11,6 +11,7 @@ pub mod Clears
 pub mod Sectors
 pub mod Accepts
 pub mod Runs
+pub mod OnBus
 pub mod Billing
 pub mod Counts
 pub mod Determined

@@ -8,3 +8,4 @@ pub mod Sent
 pub mod Formulas
 pub mod Bill
 pub mod Loading
+pub mod Socket
