@@ -142,3 +142,62 @@ module _ (part first : ℕ) (image : List ℕ) (wp : Bool) (p : ℕ) (begun : be
       let c : Closed (cyclesMost j) n (loadHeard T f n (shown (turned seen (nextSector j 0)))) = heard-closed n f (cyclesMost j) seen (nextSector j 0) (rw most-is at (next-fine j image R 0 (zero-mod (j .size)))) in
       rw (first-turn seen read)
       (record { names-nothing = c .names-nothing h; numbered = c .numbered h; cycles-few = c .few; repeated = c .repeated h })
+
+  -- ---- against the model
+  -- a talk is a run of the loader
+  abbrev Runs : ℕ → World → Turned → LoadTold
+  Runs n w t = loadTold (passOf j image n t w .sent) (chipOf (runOf j image n t w)) (shown (passOf j image n t w .turn))
+
+  talk-stops : (n k : ℕ) (seen : List ℕ) (h : Chip) → isEnding k ≡ true → loadTalk T part (suc n) (shown (turned seen (Stop k))) h ≡ loadTold [] h (shown (turned seen (Stop k)))
+  unfolding loadTalk
+  talk-stops n k seen h e = rw (stops Waiting k e)
+
+  -- the turn after a cycle that was sent to the chip of a world
+  abbrev turnAfter : World → Loader → Purpose → Cycle → List ℕ → Turned
+  turnAfter w l q c seen = turnOf j image seen l (sendOf part w q c .held .reply)
+
+  talk-more : (n : ℕ) (w : World) (l : Loader) (q : Purpose) (c : Cycle) (seen : List ℕ) → Sound j image R l
+      → loadTalk T part n (shown (turnAfter w l q c seen)) (chipOf (sendOf part w q c)) ≡ Runs n (sendOf part w q c) (turnAfter w l q c seen)
+      → loadTalk T part n (T (state (Within l)) seen (shows part (chipOf w) c)) (after part (chipOf w) c) ≡ Runs n (sendOf part w q c) (turnAfter w l q c seen)
+  unfolding sendOf after
+  talk-more n w l q c seen s h =
+      ap (λ (u : LoadTurned). loadTalk T part n u (chipOf (sendOf part w q c))) (next-turn l seen (sendOf part w q c .held .reply) s) ∙ h
+
+  talk-is : (n : ℕ) (w : World) (m : ℕ) (seen : List ℕ) (x : Turn) → Fit m x → loadTalk T part n (shown (turned seen x)) (chipOf w) ≡ Runs n w (turned seen x)
+  unfolding loadTalk
+  talk-is zero w m seen x e = refl
+  talk-is (suc n) w m seen (Stop k) e = talk-stops n k seen (chipOf w) e
+  talk-is (suc n) w m seen (Play l q c) e =
+      ap (toldAfter (sent q c))
+      (talk-more n w l q c seen (e .0)
+      (talk-is n (sendOf part w q c) (loaderLeft j image R l) (turnAfter w l q c seen .seen) (turnAfter w l q c seen .turn)
+      (turn-fine j image R l seen (sendOf part w q c .held .reply) (e .0))))
+
+  -- on a fresh device and the part's number of cells
+  module _ (cells : List ℕ) (whole : length cells ≡ rowOf part .cells) (seen : List ℕ) (long : length seen ≡ 4096) (read : ℕ) where
+    abbrev talked : ℕ → LoadTold
+    talked n = loadTalk T part n (T (beginLoad part first image wp p .loading) seen read) (chip cells freshDevice)
+
+    begins-talk : (n : ℕ) → talked n ≡ Runs n (world cells noneSent) (turned seen (nextSector j 0))
+    begins-talk n =
+        ap (λ (t : LoadTurned). loadTalk T part n t (chip cells freshDevice)) (first-turn seen read)
+        ∙ talk-is n (world cells noneSent) (sectorsLeft j image R 0) seen (nextSector j 0) (next-fine j image R 0 (zero-mod (j .size)))
+
+    the-rest : Rest j image (turned seen (nextSector j 0)) (world cells noneSent) (sentOf j image cells)
+    the-rest = all-rest j image R cells whole (sector-some (rowOf part .width)) (sector-most (rowOf part .width)) seen long
+
+    -- The cycles sent are the first n of the one list.
+    pub sends-list : (n : ℕ) → talked n .sent ≡ take n (sentOf j image cells)
+    unfolding Rest
+    sends-list n = ap (λ (t : LoadTold). t .sent) (begins-talk n) ∙ the-rest n .1 .1 .0
+
+    -- The chip is left as these cycles leave it.
+    pub leaves-played : (n : ℕ) → talked n .chip ≡ chipOf (playOf part (world cells noneSent) (take n (sentOf j image cells)))
+    unfolding Rest
+    leaves-played n = ap (λ (t : LoadTold). t .chip) (begins-talk n) ∙ ap chipOf (the-rest n .0)
+
+    -- Once all are sent it has ended with 0.
+    pub ends-with-0 : (n : ℕ) → length (sentOf j image cells) ≤ n → talked n .last .turn ≡ loadTurn 0 (state (Over 0)) SendsNothing
+    unfolding Rest isEnding
+    ends-with-0 n h =
+        ap (λ (t : LoadTold). t .last .turn) (begins-talk n) ∙ (ap (taken (state Waiting)) (the-rest n .1 .1 .1 h) ∙ stops Waiting 0 refl)
