@@ -4,7 +4,7 @@ use mathlib.Core.Path.{_≡_, refl, sym}
 use mathlib.Core.Bool.{Bool, true, false}
 use mathlib.Core.List.{List}
 use native.Mathlib.Omega.{arith}
-use borrow.Author.Tests.{ltb-false, leb-true, eqb-true, lt-ltb, ne-eqb}
+use borrow.Author.Tests.{ltb-false, leb-true, eqb-true, lt-ltb, eq-eqb, ne-eqb}
 use lib.Dec.{eqb}
 use lib.ListN.{length}
 use Rattle.parts.specs.Width.{sectorSize}
@@ -96,6 +96,14 @@ lent-cells part lent first image wp p e =
     let a = none-first (partRefusal part) _ e in
     let b = zero-left _ _ 1 (a .1) in
     (eqb-true _ _ (b .0), rw (a .0) (b .1))
+
+-- and with the part's number of cells lent the job is not refused
+pub not-refused : (part first : ℕ) (image : List ℕ) (wp : Bool) (p : ℕ) → beginRefusal part first image wp p ≡ 0 → (lent : ℕ) → lent ≡ rowOf part .cells
+    → jobRefusal part lent first image wp p ≡ 0
+unfolding jobRefusal beginRefusal
+not-refused part first image wp p z lent e =
+    let a = none-first (partRefusal part) _ z in
+    rw (a .0, eq-eqb lent (rowOf part .cells) e) (a .1)
 
 -- a job that is begun is a right one
 pub right : (part first : ℕ) (image : List ℕ) (wp : Bool) (p : ℕ) → beginRefusal part first image wp p ≡ 0 → AcceptedJob (jobFrom part first (length image) wp p) image

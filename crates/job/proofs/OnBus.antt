@@ -30,11 +30,11 @@ use Rattle.job.specs.Refusal.{beginRefusal}
 use Rattle.job.specs.Loader.{Turned, turned, nextSector, turnOf}
 use Rattle.job.specs.Run.{Sent, sent, World, world, noneSent, sendOf, playOf, runOf}
 use Rattle.job.specs.Sent.{sentOf}
-use Rattle.job.specs.Bill.{jobFrom, loadOf}
+use Rattle.job.specs.Bill.{jobFrom, played, loadOf}
 use Rattle.job.specs.Loading.{loading, beginLoad, isEnding, progressInRange, movedTo, loadTurn, stopsWith, taken, LoadTurned, loadTurned, takes, progressOf, loadTurnOf}
-use Rattle.job.specs.Socket.{LoadTold, loadTold, toldAfter, loadTalk, LoadHeard, loadHeardOf, heardAfter, loadHeard, operationMost, cyclesMost, HasEnded}
+use Rattle.job.specs.Socket.{LoadTold, loadTold, toldAfter, loadTalk, LoadHeard, loadHeardOf, heardAfter, loadHeard, HasLoaded, operationMost, cyclesMost, HasEnded}
 use Rattle.job.proofs.AcceptedJob.{AcceptedJob}
-use Rattle.job.proofs.Accepts.{begins, right, sector-most}
+use Rattle.job.proofs.Accepts.{begins, right, not-refused, sector-most}
 use Rattle.job.proofs.InRange.{turns-job, goes-by}
 use Rattle.job.proofs.Falls.{operationLeft, sectorLeft, sectorsLeft, loaderLeft, Sound, Fine, next-fine, turn-fine}
 use Rattle.job.proofs.Rest.{chipOf, Pass, pass, ahead, passOf, Rest}
@@ -173,6 +173,16 @@ module _ (part first : ℕ) (image : List ℕ) (wp : Bool) (p : ℕ) (begun : be
       (talk-is n (sendOf part w q c) (loaderLeft j image R l) (turnAfter w l q c seen .seen) (turnAfter w l q c seen .turn)
       (turn-fine j image R l seen (sendOf part w q c .held .reply) (e .0))))
 
+  -- no more cycles are sent than are left
+  few-passed : (n : ℕ) (w : World) (m : ℕ) (seen : List ℕ) (x : Turn) → Fit m x → length (passOf j image n (turned seen x) w .sent) ≤ m
+  few-passed zero w m seen x e = zero-le
+  few-passed (suc n) w m seen (Stop k) e = zero-le
+  few-passed (suc n) w m seen (Play l q c) e =
+      le-trans
+      (suc-le-suc (few-passed n (sendOf part w q c) (loaderLeft j image R l) (turnAfter w l q c seen .seen) (turnAfter w l q c seen .turn)
+      (turn-fine j image R l seen (sendOf part w q c .held .reply) (e .0))))
+      (e .1)
+
   -- on a fresh device and the part's number of cells
   module _ (cells : List ℕ) (whole : length cells ≡ rowOf part .cells) (seen : List ℕ) (long : length seen ≡ 4096) (read : ℕ) where
     abbrev talked : ℕ → LoadTold
@@ -186,18 +196,33 @@ module _ (part first : ℕ) (image : List ℕ) (wp : Bool) (p : ℕ) (begun : be
     the-rest : Rest j image (turned seen (nextSector j 0)) (world cells noneSent) (sentOf j image cells)
     the-rest = all-rest j image R cells whole (sector-some (rowOf part .width)) (sector-most (rowOf part .width)) seen long
 
-    -- The cycles sent are the first n of the one list.
-    pub sends-list : (n : ℕ) → talked n .sent ≡ take n (sentOf j image cells)
+    -- the cycles sent are the first n of the one list
+    pub sends-first : (n : ℕ) → talked n .sent ≡ take n (sentOf j image cells)
     unfolding Rest
-    sends-list n = ap (λ (t : LoadTold). t .sent) (begins-talk n) ∙ the-rest n .1 .1 .0
+    sends-first n = ap (λ (t : LoadTold). t .sent) (begins-talk n) ∙ the-rest n .1 .1 .0
 
-    -- The chip is left as these cycles leave it.
-    pub leaves-played : (n : ℕ) → talked n .chip ≡ chipOf (playOf part (world cells noneSent) (take n (sentOf j image cells)))
+    -- the chip is left as these cycles leave it
+    pub leaves-played : (n : ℕ) → talked n .chip ≡ chipOf (played part cells first image wp p n)
     unfolding Rest
     leaves-played n = ap (λ (t : LoadTold). t .chip) (begins-talk n) ∙ ap chipOf (the-rest n .0)
 
-    -- Once all are sent it has ended with 0.
-    pub ends-with-0 : (n : ℕ) → length (sentOf j image cells) ≤ n → talked n .last .turn ≡ loadTurn 0 (state (Over 0)) SendsNothing
-    unfolding Rest isEnding
-    ends-with-0 n h =
-        ap (λ (t : LoadTold). t .last .turn) (begins-talk n) ∙ (ap (taken (state Waiting)) (the-rest n .1 .1 .1 h) ∙ stops Waiting 0 refl)
+    -- the one list is no longer than any talk
+    few-sent : length (sentOf j image cells) ≤ cyclesMost j
+    unfolding Rest
+    few-sent =
+        let L = sentOf j image cells in
+        let e : take (length L) L ≡ passOf j image (length L) (turned seen (nextSector j 0)) (world cells noneSent) .sent = sym (the-rest (length L) .1 .1 .0) in
+        rw (← take-all (length L) L (le-refl (length L)), e, ← most-is)
+        (few-passed (length L) (world cells noneSent) (sectorsLeft j image R 0) seen (nextSector j 0) (next-fine j image R 0 (zero-mod (j .size))))
+
+    -- Once all are sent, it has loaded.
+    pub loads-list : (n : ℕ) → cyclesMost j ≤ n → HasLoaded part cells first image wp p (talked n)
+    unfolding Rest isEnding loadOf
+    loads-list n h =
+        let few : length (sentOf j image cells) ≤ n = le-trans few-sent h in
+        let all : take n (sentOf j image cells) ≡ sentOf j image cells = take-all n (sentOf j image cells) few in
+        record {
+          sends = sends-first n ∙ all;
+          leaves = rw (not-refused part first image wp p begun (length cells) whole) (ap (λ (h : Chip). h .cells) (leaves-played n) ∙ ap (λ (L : List Sent). playOf part (world cells noneSent) L .cells) all);
+          ends = ap (λ (t : LoadTold). t .last .turn) (begins-talk n) ∙ (ap (taken (state Waiting)) (the-rest n .1 .1 .1 few) ∙ stops Waiting 0 refl);
+        }

@@ -2,9 +2,9 @@
 -- last read.
 use Prim.Native.Nat.{ℕ, zero, suc, _+_, _*_, _/_, _≤_}
 use mathlib.Core.Path.{_≡_}
-use mathlib.Core.Bool.{true}
+use mathlib.Core.Bool.{Bool, true}
 use mathlib.Core.List.{List, [], _∷_}
-use lib.ListN.{length, take}
+use lib.ListN.{length}
 use Rattle.parts.specs.Names.{PROGRAM, SECTOR}
 use Rattle.parts.specs.Time.{pollsOf}
 use Rattle.chip.specs.Cycle.{Chip}
@@ -12,10 +12,13 @@ use Rattle.chip.specs.Trace.{after}
 use Rattle.driver.specs.Writes.{writeCount}
 use Rattle.driver.specs.Talk.{shows}
 use Rattle.job.specs.declared.loader.Job.{Job}
+use Rattle.job.specs.declared.loading.Progress.the-variants.{Over}
 use Rattle.job.specs.declared.loading.Loading.{Loading}
 use Rattle.job.specs.declared.loading.Sending.the-variants.{SendsNothing, Sends}
 use Rattle.job.specs.Run.{Sent, sent}
-use Rattle.job.specs.Loading.{LoadTurned, loadTurned, isEnding}
+use Rattle.job.specs.Sent.{sentOf}
+use Rattle.job.specs.Bill.{jobFrom, loadOf}
+use Rattle.job.specs.Loading.{loading, isEnding, loadTurn, LoadTurned, loadTurned}
 
 -- ---- against the model
 -- the cycles sent, the chip that they left, and the turn that stands: where it names nothing, the end
@@ -39,6 +42,12 @@ loadTalk T part (suc n) t h =
       | SendsNothing ↦ loadTold [] h t
       | Sends p c ↦ toldAfter (sent p c) (loadTalk T part n (T (t .turn .loading) (t .seen) (shows part h c)) (after part h c))
     ]
+
+-- on the part's number of cells and a fresh device it has sent the one list, left the cells that the job leaves, and ended with 0
+pub record HasLoaded (part : ℕ) (cells : List ℕ) (first : ℕ) (image : List ℕ) (wp : Bool) (p : ℕ) (t : LoadTold) : Type 0 where
+  pub sends : t .sent ≡ sentOf (jobFrom part first (length image) wp p) image cells
+  pub leaves : t .chip .cells ≡ loadOf part cells first image wp p .cells
+  pub ends : t .last .turn ≡ loadTurn 0 (loading part first (length image) wp p (Over 0)) SendsNothing
 
 -- ---- against any replies
 pub record LoadHeard : Type 0 where
