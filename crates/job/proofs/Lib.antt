@@ -1,6 +1,7 @@
 pub mod Turns
 pub mod InJob
 pub mod InRange
+pub mod AsItCame
 pub mod Falls
 pub mod Loop
 pub mod Rest
