@@ -107,8 +107,9 @@ pub record Socket : Type 0 where
       → HasLoaded (g .part) cells (g .first) (g .image) (g .wp) (g .p)
       (loadTalk (turns (g .image) k) (g .part) n (turns (g .image) k (c .back .loading) seen read) (chip cells freshDevice))
   -- Whatever is replied (f), a dead chip's constant among it, a begun job has ended after that many cycles with 0, 11 or 12,
-  -- and repeats its ending.
+  -- and repeats its ending; and it has named no cycle but reads of its range and the writes of programs of the image's
+  -- values and of erases of its range's sectors, at its level.
   pub ends : (c : BeginCall) → let g = toBegin c in refusedBegin g ≡ 0
       → (k : Controller (g .image)) (f : ℕ → ℕ) (seen : List ℕ) (read n : ℕ) → cyclesMost (jobBegun g) ≤ n
-      → HasEnded (turns (g .image) k) (jobBegun g)
+      → HasEnded (turns (g .image) k) (jobBegun g) (g .image)
       (loadHeard (turns (g .image) k) f n (turns (g .image) k (c .back .loading) seen read))

@@ -13,6 +13,8 @@ use Rattle.parts.specs.Table.{rowOf}
 use Rattle.parts.proofs.Every.{both, split}
 use Rattle.parts.proofs.Ranges.{sector-some}
 use Rattle.chip.specs.declared.cycle.Action.{Action}
+use Rattle.chip.specs.declared.cycle.Action.the-variants.{Read}
+use Rattle.chip.specs.declared.cycle.Cycle.{Cycle}
 use Rattle.driver.specs.declared.machine.Phase.{Phase}
 use Rattle.driver.specs.declared.machine.Phase.the-variants.{Writing, Polling, Confirming, Done, GaveUp, Differs}
 use Rattle.driver.specs.declared.machine.Driver.{Driver}
@@ -21,9 +23,9 @@ use Rattle.driver.specs.declared.machine.Next.the-variants.{Nothing, Send}
 use Rattle.driver.specs.declared.machine.Step.{Step}
 use Rattle.driver.specs.Refusals.{startRefusal}
 use Rattle.driver.specs.Writes.{writeCount}
-use Rattle.driver.specs.Machine.{begun, mostPolls, inRange, moved, ending, stepOf, startWriting}
+use Rattle.driver.specs.Machine.{addressOf, begun, mostPolls, inRange, confirmAfter, moved, ending, stepOf, startWriting}
 use Rattle.driver.proofs.Begins.{start-is, start-range}
-use Rattle.driver.proofs.Steps.{most, left, leftFrom, falls, keeps, asks-on, answers}
+use Rattle.driver.proofs.Steps.{Way, refused, writes, wrote, waits, matched, ends, way, writeNext, left, leftFrom, falls, keeps, asks-on, answers}
 use Rattle.job.specs.declared.loader.Job.{Job}
 use Rattle.job.specs.declared.loader.Stage.{Stage}
 use Rattle.job.specs.declared.loader.Stage.the-variants.{Scanning, Looking, Driving}
@@ -37,10 +39,11 @@ use Rattle.job.specs.declared.search.Decision.the-variants.{NoErase, Sec
 use Rattle.job.specs.Search.{decisionOf}
 use Rattle.job.specs.Loader.{Turned, loader, placeOf, readsCell, nextSector, lookOf, goesOn, firstStep, beginOf, nextMark, fillOf, burnOf, carryOut, decideOf, afterwards, drivenOf, seenOf}
 use Rattle.job.specs.Loader.{scannedOf, stageOf, turnOf}
+use Rattle.job.specs.Socket.{Allowed, reads, programs, erases}
 use Rattle.job.specs.Loading.{isEnding, askedFor, sameAsked, stageInRange, loaderInRange}
 use Rattle.job.proofs.InJob.{in-sector, sector-in}
 use Rattle.job.proofs.AcceptedJob.{AcceptedJob, program-starts, erase-starts}
-use Rattle.job.proofs.InRange.{asked-same}
+use Rattle.job.proofs.InRange.{asked-same, Alike, alike}
 
 -- ---- numbers
 times-more : (q k : ℕ) → (q + 1) * k ≡ k + q * k
@@ -119,12 +122,15 @@ module _ (j : Job) (image : List ℕ) (R : AcceptedJob j image) where
     pub range : loaderInRange j image l ≡ true
     pub drives : Drives (l .stage)
 
+  abbrev Sent-in : Cycle → Type 0
+  Sent-in c = (c .wp ≡ j .wp) × Allowed j image (c .action)
+
   abbrev pub Fine : ℕ → Turn → Type 0
-  Fine m (Play l p c) = Sound l × (suc (loaderLeft l) ≤ m)
+  Fine m (Play l p c) = Sound l × ((suc (loaderLeft l) ≤ m) × Sent-in c)
   Fine m (Stop n) = isEnding n ≡ true
 
   pub fine-more : (m n : ℕ) (t : Turn) → m ≤ n → Fine m t → Fine n t
-  fine-more m n (Play l p c) h f = (f .0, le-trans (f .1) h)
+  fine-more m n (Play l p c) h f = (f .0, (le-trans (f .1 .0) h, f .1 .1))
   fine-more m n (Stop k) h f = f
 
   sound-at : (s : Stage) (base i : ℕ) → base + j .size ≤ j .count → base % j .size ≡ 0 → i < j .size → stageInRange j image s base i ≡ true → Drives s → Sound (loader s base i)
@@ -143,7 +149,7 @@ module _ (j : Job) (image : List ℕ) (R : AcceptedJob j image) where
   next-fine b a =
       split (Fine (sectorsLeft b)) (ltb b (j .count)) (readsCell j Scanning b 0) (Stop 0)
       (λ t. let h = next-multiple (j .size) b (j .count) a (R .whole) (ltb-true b (j .count) t) in
-      (sound-at Scanning b 0 h a some refl tt, omega (arith, one-less b h, some)))
+      (sound-at Scanning b 0 h a some refl tt, (omega (arith, one-less b h, some), (refl, reads (b + 0) (omega (arith, some))))))
       (λ _. refl)
 
   -- ---- one sector
@@ -160,7 +166,7 @@ module _ (j : Job) (image : List ℕ) (R : AcceptedJob j image) where
         split (Fine ((j .size - i) * (1 + P) + beyond)) (ltb i (j .size)) (readsCell j Looking base i) (nextSector j (base + j .size))
         (λ t. let h = ltb-true i (j .size) t in
         let e : j .size - i ≡ suc (j .size - (i + 1)) = omega arith in
-        (sound-at Looking base i inside aligned h refl tt, looks (j .size - i) (j .size - (i + 1)) e))
+        (sound-at Looking base i inside aligned h refl tt, (looks (j .size - i) (j .size - (i + 1)) e, (refl, reads (base + i) (omega arith)))))
         (λ _. fine-more beyond _ (nextSector j (base + j .size)) (omega arith) then-next)
       where
         looks : (u v : ℕ) → u ≡ suc v → suc (v + u * P + beyond) ≤ u * (1 + P) + beyond
@@ -171,6 +177,44 @@ module _ (j : Job) (image : List ℕ) (R : AcceptedJob j image) where
       abbrev onward : ℕ
       onward = taskLeft task i + beyond
 
+      -- what its driver writes next, and reads
+      writes-allowed : (d : Driver) → Alike d (askedFor j image task base i) → d .count < writeCount (d .command) → Allowed j image (writeNext d)
+      writes-allowed d s h = by task (s .part) (s .command) (s .address) (s .word)
+        where
+          by : (t : Task) → d .part ≡ askedFor j image t base i .part → d .command ≡ askedFor j image t base i .command → d .address ≡ askedFor j image t base i .address
+              → d .«data» ≡ askedFor j image t base i .«data» → Allowed j image (writeNext d)
+          by Erasing a b c e = rw (a, b, c, e) (erases base (d .count) (omega (arith, some)) aligned (rw b at h))
+          by Filling a b c e = rw (a, b, c, e) (programs (base + i) (d .count) (omega arith) (rw b at h))
+          by Burning a b c e = rw (a, b, c, e) (programs (base + i) (d .count) (omega arith) (rw b at h))
+
+      reads-allowed : (d : Driver) → Alike d (askedFor j image task base i) → Allowed j image (Read (addressOf (d .command) (d .address)))
+      reads-allowed d s = by task (s .command) (s .address)
+        where
+          by : (t : Task) → d .command ≡ askedFor j image t base i .command → d .address ≡ askedFor j image t base i .address → Allowed j image (Read (addressOf (d .command) (d .address)))
+          by Erasing b c = rw (b, c) (reads base (omega (arith, some)))
+          by Filling b c = rw (b, c) (reads (base + i) (omega arith))
+          by Burning b c = rw (b, c) (reads (base + i) (omega arith))
+
+      names-allowed : (d : Driver) (read e : ℕ) (a : Action) → sameAsked d (askedFor j image task base i) ≡ true → stepOf d read .next ≡ Send e a → Allowed j image a
+      names-allowed d read e a h q = go (stepOf d read) (way d read) q
+        where
+          s : Alike d (askedFor j image task base i)
+          s = alike d (askedFor j image task base i) h
+
+          none : Nothing ≡ Send e a → Allowed j image a
+          none f = let z : _≡_ {A = ℕ} 0 1 = cc in absurd (omega arith)
+
+          is : (m : ℕ) (b : Action) → Send m b ≡ Send e a → Allowed j image b → Allowed j image a
+          is m b f k = let g : b ≡ a = cc in rw (sym g) k
+
+          go : (t : Step) → Way d t → t .next ≡ Send e a → Allowed j image a
+          go t (refused f) n = none n
+          go t (writes f l) n = is 0 (writeNext d) n (writes-allowed d s (omega arith))
+          go t (wrote f l) n = is 0 (writeNext d) n (writes-allowed d s (omega arith))
+          go t (waits f l) n = is (d .p) (Read (addressOf (d .command) (d .address))) n (reads-allowed d s)
+          go t (matched f l m) n = is confirmAfter (Read (addressOf (d .command) (d .address))) n (reads-allowed d s)
+          go t (ends f i z c m) n = none n
+
       -- the cycle that its driver names
       goes-fine : (d : Driver) (read e : ℕ) (a : Action) → inRange d ≡ true → sameAsked d (askedFor j image task base i) ≡ true → stepOf d read .next ≡ Send e a
           → Fine (left d + onward) (goesOn j task base i (stepOf d read .driver) e a)
@@ -178,7 +222,7 @@ module _ (j : Job) (image : List ℕ) (R : AcceptedJob j image) where
           let u = stepOf d read .driver in
           let w : sameAsked u (askedFor j image task base i) ≡ true = ap (λ (u : Driver). sameAsked u (askedFor j image task base i)) (asks-on d read) ∙ (moved-asks d _ _ (askedFor j image task base i) ∙ s) in
           let f : leftFrom (Send e a) u ≤ left d = rw q at (falls d read) in
-          (sound-at (Driving task u) base i inside aligned there w (keeps d read v), omega (arith, f))
+          (sound-at (Driving task u) base i inside aligned there w (keeps d read v), (omega (arith, f), (refl, names-allowed d read e a s q)))
 
       -- its first step
       first-fine : (d : Driver) (x : Next) → stepOf d 0 .next ≡ x → inRange d ≡ true → sameAsked d (askedFor j image task base i) ≡ true
@@ -277,7 +321,7 @@ module _ (j : Job) (image : List ℕ) (R : AcceptedJob j image) where
     unfolding scannedOf
     stage-fine Scanning i seen read h t d =
         split (Fine (stageLeft Scanning i + beyond)) (ltb (i + 1) (j .size)) (readsCell j Scanning base (i + 1)) (decideOf j image seen base)
-        (λ l. let n : i + 1 < j .size = ltb-true (i + 1) (j .size) l in (sound-at Scanning base (i + 1) inside aligned n refl tt, omega arith))
+        (λ l. let n : i + 1 < j .size = ltb-true (i + 1) (j .size) l in (sound-at Scanning base (i + 1) inside aligned n refl tt, (omega arith, (refl, reads (base + (i + 1)) (omega arith)))))
         (λ _. fine-more _ _ (decideOf j image seen base) (omega arith) (decide-fine seen))
     stage-fine Looking i seen read h t d = burn-fine i read h
     stage-fine (Driving task d) i seen read h t v = driven-fine task i d read (stepOf d read .next) refl h v t

@@ -4,10 +4,11 @@ use mathlib.Core.Path.{_≡_, ap}
 use mathlib.Core.Bool.{Bool, true, false}
 use mathlib.Core.List.{List}
 use native.Mathlib.Omega.{arith}
-use borrow.Author.Tests.{eq-eqb, ne-eqb}
+use borrow.Author.Tests.{eq-eqb, ne-eqb, eqb-true}
 use lib.Dec.{eqb}
 use lib.ListN.{length}
 use Rattle.parts.specs.Table.{rowOf}
+use Rattle.parts.proofs.Every.{both}
 use Rattle.parts.proofs.Sound.{width-most, cells-most}
 use Rattle.parts.proofs.Ranges.{sector-some}
 use Rattle.driver.specs.declared.machine.Driver.{Driver}
@@ -30,6 +31,22 @@ begun-few part first image wp p z =
 pub asked-same : (d e : Driver) → d .part ≡ e .part → d .command ≡ e .command → d .address ≡ e .address → d .«data» ≡ e .«data» → sameAsked d e ≡ eqb (d .p) (e .p)
 unfolding sameAsked
 asked-same d e a b c f = simp (eq-eqb (d .part) (e .part) a, eq-eqb (d .command) (e .command) b, eq-eqb (d .address) (e .address) c, eq-eqb (d .«data») (e .«data») f)
+
+-- what two drivers that ask for the same have in common
+pub record Alike (d e : Driver) : Type 0 where
+  pub part : d .part ≡ e .part
+  pub command : d .command ≡ e .command
+  pub address : d .address ≡ e .address
+  pub word : d .«data» ≡ e .«data»
+
+pub alike : (d e : Driver) → sameAsked d e ≡ true → Alike d e
+unfolding sameAsked
+alike d e h =
+    let a = both (eqb (d .part) (e .part)) _ h in
+    let b = both (eqb (d .command) (e .command)) _ (a .1) in
+    let c = both (eqb (d .address) (e .address)) _ (b .1) in
+    let f = both (eqb (d .«data») (e .«data»)) _ (c .1) in
+    record { part = eqb-true _ _ (a .0); command = eqb-true _ _ (b .0); address = eqb-true _ _ (c .0); word = eqb-true _ _ (f .0) }
 
 -- ---- a turn, by how far the job is
 module _ (g : Loading) (j : Job) (image seen : List ℕ) (read : ℕ) where

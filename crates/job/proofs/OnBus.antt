@@ -32,7 +32,7 @@ use Rattle.job.specs.Run.{Sent, sent, World, world, noneSent, sendOf, pl
 use Rattle.job.specs.Sent.{sentOf}
 use Rattle.job.specs.Bill.{jobFrom, played, loadOf}
 use Rattle.job.specs.Loading.{loading, beginLoad, isEnding, progressInRange, movedTo, loadTurn, stopsWith, taken, LoadTurned, loadTurned, takes, progressOf, loadTurnOf}
-use Rattle.job.specs.Socket.{LoadTold, loadTold, toldAfter, loadTalk, LoadHeard, loadHeardOf, heardAfter, loadHeard, HasLoaded, operationMost, cyclesMost, HasEnded}
+use Rattle.job.specs.Socket.{LoadTold, loadTold, toldAfter, loadTalk, LoadHeard, loadHeardOf, heardAfter, loadHeard, HasLoaded, operationMost, cyclesMost, AllAllowed, HasEnded}
 use Rattle.job.proofs.AcceptedJob.{AcceptedJob}
 use Rattle.job.proofs.Accepts.{begins, right, not-refused, sector-most}
 use Rattle.job.proofs.InRange.{turns-job, goes-by}
@@ -88,6 +88,7 @@ module _ (part first : ℕ) (image : List ℕ) (wp : Bool) (p : ℕ) (begun : be
   -- ---- against any replies
   pub record Closed (m n : ℕ) (h : LoadHeard) : Type 0 where
     pub few : length (h .sent) ≤ m
+    pub allowed : AllAllowed j image (h .sent)
     pub names-nothing : m ≤ n → h .last .turn .next ≡ SendsNothing
     pub numbered : m ≤ n → isEnding (h .last .turn .answer) ≡ true
     pub repeated : m ≤ n → (seen : List ℕ) (read : ℕ) → T (h .last .turn .loading) seen read ≡ loadTurned seen (h .last .turn)
@@ -95,7 +96,7 @@ module _ (part first : ℕ) (image : List ℕ) (wp : Bool) (p : ℕ) (begun : be
   closed-end : (m n k : ℕ) (seen : List ℕ) → isEnding k ≡ true → Closed m n (loadHeardOf [] (shown (turned seen (Stop k))))
   closed-end m n k seen e =
       rw (stops Waiting k e)
-      (record { few = zero-le; names-nothing = λ _. refl; numbered = λ _. e; repeated = λ _ s r. last-turn k s r e })
+      (record { few = zero-le; allowed = tt; names-nothing = λ _. refl; numbered = λ _. e; repeated = λ _ s r. last-turn k s r e })
 
   heard-stops : (f : ℕ → ℕ) (n k : ℕ) (seen : List ℕ) → isEnding k ≡ true → loadHeard T f (suc n) (shown (turned seen (Stop k))) ≡ loadHeardOf [] (shown (turned seen (Stop k)))
   unfolding loadHeard
@@ -105,8 +106,8 @@ module _ (part first : ℕ) (image : List ℕ) (wp : Bool) (p : ℕ) (begun : be
   unfolding loadHeard
   heard-closed zero f m seen (Stop k) e = closed-end m 0 k seen e
   heard-closed zero f m seen (Play l q c) e =
-      let no : m ≤ 0 → ⊥ = λ h. not-suc-le-zero (le-trans (e .1) h) in
-      record { few = zero-le; names-nothing = λ h. absurd (no h); numbered = λ h. absurd (no h); repeated = λ h. absurd (no h) }
+      let no : m ≤ 0 → ⊥ = λ h. not-suc-le-zero (le-trans (e .1 .0) h) in
+      record { few = zero-le; allowed = tt; names-nothing = λ h. absurd (no h); numbered = λ h. absurd (no h); repeated = λ h. absurd (no h) }
   heard-closed (suc n) f m seen (Stop k) e = rw (heard-stops f n k seen e) (closed-end m (suc n) k seen e)
   heard-closed (suc n) f m seen (Play l q c) e =
       go (heard-closed n (λ i. f (suc i)) (loaderLeft j image R l) (turnOf j image seen l (f 0) .seen) (turnOf j image seen l (f 0) .turn) (turn-fine j image R l seen (f 0) (e .0)))
@@ -114,10 +115,11 @@ module _ (part first : ℕ) (image : List ℕ) (wp : Bool) (p : ℕ) (begun : be
       go : Closed (loaderLeft j image R l) n (loadHeard T (λ i. f (suc i)) n (shown (turnOf j image seen l (f 0))))
           → Closed m (suc n) (heardAfter (sent q c) (loadHeard T (λ i. f (suc i)) n (T (state (Within l)) seen (f 0))))
       go h =
-          let up : m ≤ suc n → loaderLeft j image R l ≤ n = λ g. le-of-suc-le-suc (le-trans (e .1) g) in
+          let up : m ≤ suc n → loaderLeft j image R l ≤ n = λ g. le-of-suc-le-suc (le-trans (e .1 .0) g) in
           rw (next-turn l seen (f 0) (e .0))
           (record {
-            few = le-trans (suc-le-suc (h .few)) (e .1);
+            few = le-trans (suc-le-suc (h .few)) (e .1 .0);
+            allowed = (e .1 .1 .0, (e .1 .1 .1, h .allowed));
             names-nothing = λ g. h .names-nothing (up g);
             numbered = λ g. h .numbered (up g);
             repeated = λ g. h .repeated (up g);
@@ -137,11 +139,11 @@ module _ (part first : ℕ) (image : List ℕ) (wp : Bool) (p : ℕ) (begun : be
       sums s e e′ o o′ q r = rw (q, r) (omega arith)
 
   -- Whatever is replied, it has ended after so many cycles.
-  pub ends-whatever : (f : ℕ → ℕ) (seen : List ℕ) (read n : ℕ) → cyclesMost j ≤ n → HasEnded T j (loadHeard T f n (T (beginLoad part first image wp p .loading) seen read))
+  pub ends-whatever : (f : ℕ → ℕ) (seen : List ℕ) (read n : ℕ) → cyclesMost j ≤ n → HasEnded T j image (loadHeard T f n (T (beginLoad part first image wp p .loading) seen read))
   ends-whatever f seen read n h =
       let c : Closed (cyclesMost j) n (loadHeard T f n (shown (turned seen (nextSector j 0)))) = heard-closed n f (cyclesMost j) seen (nextSector j 0) (rw most-is at (next-fine j image R 0 (zero-mod (j .size)))) in
       rw (first-turn seen read)
-      (record { names-nothing = c .names-nothing h; numbered = c .numbered h; cycles-few = c .few; repeated = c .repeated h })
+      (record { names-nothing = c .names-nothing h; numbered = c .numbered h; cycles-few = c .few; allowed = c .allowed; repeated = c .repeated h })
 
   -- ---- against the model
   -- a talk is a run of the loader
@@ -181,7 +183,7 @@ module _ (part first : ℕ) (image : List ℕ) (wp : Bool) (p : ℕ) (begun : be
       le-trans
       (suc-le-suc (few-passed n (sendOf part w q c) (loaderLeft j image R l) (turnAfter w l q c seen .seen) (turnAfter w l q c seen .turn)
       (turn-fine j image R l seen (sendOf part w q c .held .reply) (e .0))))
-      (e .1)
+      (e .1 .0)
 
   -- on a fresh device and the part's number of cells
   module _ (cells : List ℕ) (whole : length cells ≡ rowOf part .cells) (seen : List ℕ) (long : length seen ≡ 4096) (read : ℕ) where

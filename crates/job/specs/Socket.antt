@@ -1,15 +1,19 @@
 -- The exported loader on a bus: against the model of the chip, and against any replies. T is what a turn hands back, of a state, the values seen and the value
 -- last read.
-use Prim.Native.Nat.{ℕ, zero, suc, _+_, _*_, _/_, _≤_}
+use Prim.Native.Nat.{ℕ, zero, suc, _+_, _*_, _/_, _%_, _≤_, _<_}
 use mathlib.Core.Path.{_≡_}
 use mathlib.Core.Bool.{Bool, true}
 use mathlib.Core.List.{List, [], _∷_}
-use lib.ListN.{length}
+use lib.ListN.{length, getD}
 use Rattle.parts.specs.Names.{PROGRAM, SECTOR}
+use Rattle.parts.specs.Table.{rowOf}
 use Rattle.parts.specs.Time.{pollsOf}
+use Rattle.chip.specs.declared.cycle.Action.{Action}
+use Rattle.chip.specs.declared.cycle.Action.the-variants.{Read, Write}
 use Rattle.chip.specs.Cycle.{Chip}
 use Rattle.chip.specs.Trace.{after}
-use Rattle.driver.specs.Writes.{writeCount}
+use Rattle.commands.specs.declared.write.Write.{Write as Written}
+use Rattle.driver.specs.Writes.{writeCount, nthWrite}
 use Rattle.driver.specs.Talk.{shows}
 use Rattle.job.specs.declared.loader.Job.{Job}
 use Rattle.job.specs.declared.loading.Progress.the-variants.{Over}
@@ -78,9 +82,26 @@ operationMost j command = writeCount command + pollsOf (j .row) command (j .p) *
 abbrev pub cyclesMost : Job → ℕ
 cyclesMost j = j .count / j .size * (j .size * 2 + operationMost j SECTOR + j .size * operationMost j PROGRAM)
 
--- it has ended, whatever was replied: no cycle is named; the number is 0, 11 or 12; no more cycles than those were sent; and every later turn repeats it
-pub record HasEnded (T : Loading → List ℕ → ℕ → LoadTurned) (j : Job) (h : LoadHeard) : Type 0 where
+abbrev pub asAction : Written → Action
+asAction w = Write (w .address) (w .«data»)
+
+-- what a job may do in a cycle: read a cell of its range; name a write of a program of an image value at its address, or of the erase of
+-- a sector of its range at its first address
+pub data Allowed (j : Job) (image : List ℕ) : Action → Type 0 where
+  reads : (i : ℕ) → i < j .count → Allowed j image (Read (j .first + i))
+  programs : (i n : ℕ) → i < j .count → n < writeCount PROGRAM → Allowed j image (asAction (nthWrite (rowOf (j .part)) PROGRAM (j .first + i) (getD image i 0) n))
+  erases : (i n : ℕ) → i < j .count → i % j .size ≡ 0 → n < writeCount SECTOR → Allowed j image (asAction (nthWrite (rowOf (j .part)) SECTOR (j .first + i) 0 n))
+
+-- each cycle of a list is such a one, at the job's level
+abbrev pub AllAllowed : Job → List ℕ → List Sent → Type 0
+AllAllowed j image [] = Unit {0}
+AllAllowed j image (s ∷ ss) = (s .cycle .wp ≡ j .wp) × (Allowed j image (s .cycle .action) × AllAllowed j image ss)
+
+-- it has ended, whatever was replied: no cycle is named; the number is 0, 11 or 12; no more cycles than those were sent, and no others than a job may send; every
+-- later turn repeats it
+pub record HasEnded (T : Loading → List ℕ → ℕ → LoadTurned) (j : Job) (image : List ℕ) (h : LoadHeard) : Type 0 where
   pub names-nothing : h .last .turn .next ≡ SendsNothing
   pub numbered : isEnding (h .last .turn .answer) ≡ true
   pub cycles-few : length (h .sent) ≤ cyclesMost j
+  pub allowed : AllAllowed j image (h .sent)
   pub repeated : (seen : List ℕ) (read : ℕ) → T (h .last .turn .loading) seen read ≡ loadTurned seen (h .last .turn)
