@@ -30,8 +30,8 @@ use Rattle.job.specs.declared.search.Decision.{Decision}
 use Rattle.job.specs.declared.search.Decision.the-variants.{NoErase, SectorErase}
 use Rattle.job.specs.Search.{decisionOf}
 use Rattle.job.specs.Refusal.{standingRefusal}
-use Rattle.job.specs.Loader.{Turned, turned, placeOf, readsCell, nextSector, lookOf, beginOf, carryOut, burnOf, decideOf, drivenOf, seenOf, scannedOf, stageOf, inJob, turnOf}
-use Rattle.job.specs.Loading.{loading, isEnding, loaderInRange, progressInRange, jobIn, loadingInRange, loadTurn, stopsWith, taken, LoadTurned, loadTurned, takes, progressOf, loadTurnOf}
+use Rattle.job.specs.Loader.{Turned, turned, placeOf, readsCell, lookOf, beginOf, carryOut, burnOf, decideOf, drivenOf, seenOf, scannedOf, stageOf, inJob, turnOf}
+use Rattle.job.specs.Loading.{loading, isEnding, loaderInRange, progressInRange, jobIn, loadingInRange, loadTurn, stopsWith, taken, LoadTurned, loadTurned, takes, firstTurn, progressOf, loadTurnOf}
 use Rattle.job.proofs.InJob.{in-sector}
 use Rattle.job.proofs.AcceptedJob.{erase-begins}
 use Rattle.job.proofs.Accepts.{Standing, standing}
@@ -110,7 +110,7 @@ module _ (g : Loading) (S : Standing (g .part) (g .first) (g .count) (g .wp) (g 
   within-same seen l read r = let a = both (inJob j l) _ r .0 in rw a (stage-same seen (l .stage) (l .base) (l .at) read (in-sector j l a .0))
 
   progress-same : (seen : List ℕ) (x : Progress) (read : ℕ) → progressInRange j image x ≡ true → Same seen (progressOf g j image seen x read)
-  progress-same seen Waiting read r = taken-same seen (nextSector j 0)
+  progress-same seen Waiting read r = taken-same seen (firstTurn j)
   progress-same seen (Within l) read r = within-same seen l read r
   progress-same seen (Over n) read r = stop-same seen n
 

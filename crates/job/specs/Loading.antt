@@ -113,9 +113,13 @@ loadTurned seen t = record { seen = seen; turn = t }
 abbrev pub takes : Loading → Turned → LoadTurned
 takes g t = loadTurned (t .seen) (taken g (t .turn))
 
--- the first read of the first sector; then what the loader does
+-- the first read of the first sector, if there is one
+abbrev pub firstTurn : Job → Turn
+firstTurn j = nextSector j 0
+
+-- the first turn; then what the loader does; then the end
 abbrev pub progressOf : Loading → Job → List ℕ → List ℕ → Progress → ℕ → LoadTurned
-progressOf g j image seen Waiting read = loadTurned seen (taken g (nextSector j 0))
+progressOf g j image seen Waiting read = loadTurned seen (taken g (firstTurn j))
 progressOf g j image seen (Within l) read = takes g (turnOf j image seen l read)
 progressOf g j image seen (Over n) read = loadTurned seen (stopsWith g n)
 
