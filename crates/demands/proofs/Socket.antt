@@ -9,13 +9,14 @@ use lib.ListN.{length}
 use Rattle.parts.specs.Table.{rowOf}
 use Rattle.parts.proofs.Every.{split}
 use Rattle.chip.specs.Cycle.{Chip}
+use Rattle.job.specs.declared.loading.Progress.the-variants.{Waiting}
 use Rattle.job.specs.declared.loading.Loading.{Loading}
 use Rattle.job.specs.declared.loading.LoadTurn.{LoadTurn}
 use Rattle.job.specs.declared.loading.Begun.{Begun}
 use Rattle.job.specs.declared.loading.Sending.the-variants.{SendsNothing}
 use Rattle.job.specs.Refusal.{jobRefusal}
 use Rattle.job.specs.Bill.{played, reportOf}
-use Rattle.job.specs.Loading.{beginLoad, isEnding, loadTurn, LoadTurned, loadTurned, loadTurnOf}
+use Rattle.job.specs.Loading.{loading, beginLoad, isEnding, loadingInRange, loadTurn, LoadTurned, loadTurned, loadTurnOf}
 use Rattle.job.proofs.Accepts.{not-refused}
 use Rattle.job.proofs.Rest.{chipOf}
 use Rattle.job.proofs.AsItCame.{none-begun, as-it-came}
@@ -41,6 +42,15 @@ begin-refusing c =
       beside = λ h. c .promise ∙ rw (ne-eqb n 0 h);
     }
 
+beginning : (c : BeginCall) → let g = toBegin c in refusedBegin g ≡ 0
+    → c .back ≡ record { answer = 0; loading = loading (g .part) (g .first) (length (g .image)) (g .wp) (g .p) Waiting }
+unfolding beginLoad
+beginning c z = c .promise ∙ rw z
+
+out-of : {g : Loading} {image seen : List ℕ} {read : ℕ} → loadingInRange g image ≡ false → loadTurnOf g image seen read ≡ loadTurned seen (loadTurn 5 g SendsNothing)
+unfolding loadTurnOf
+out-of e = rw e
+
 -- a turn that refuses
 turn-refusing : (c : TurnCall) → let g = toTurn c in isEnding (c .back .answer) ≡ false → turnLeft c ≡ loadTurned (g .seen) (loadTurn (c .back .answer) (g .loading) SendsNothing)
 turn-refusing c h =
@@ -61,6 +71,8 @@ socket =
       begin-refuses = begin-refusing;
       zero-refused = λ c e. let g = toTurn c in
           left-is c ∙ (ap (λ (l : Loading). loadTurnOf l (g .image) (g .seen) (g .read)) e ∙ none-begun (g .image) (g .seen) (g .read));
+      begin-given = beginning;
+      out-of-range = λ c e. left-is c ∙ out-of e;
       turn-refuses = turn-refusing;
       sends-first = λ c accepted k cells whole seen long read n. let g = toBegin c in
           let T = turns (g .image) k in

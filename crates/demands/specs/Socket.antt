@@ -19,7 +19,7 @@ use Rattle.job.specs.declared.loading.Sending.the-variants.{SendsNothing}
 use Rattle.job.specs.Refusal.{beginRefusal}
 use Rattle.job.specs.Sent.{sentOf}
 use Rattle.job.specs.Bill.{jobFrom, reportOf}
-use Rattle.job.specs.Loading.{loading, isEnding, loadTurn, LoadTurned, loadTurned}
+use Rattle.job.specs.Loading.{loading, isEnding, loadingInRange, loadTurn, LoadTurned, loadTurned}
 use Rattle.job.specs.Socket.{LoadTold, loadTalk, LoadHeard, loadHeard, cyclesMost, HasLoaded, HasEnded}
 use Rattle.job.proofs.begin_load.Kinds as begin-kinds
 use Rattle.job.proofs.begin_load.Reads as begin-reads
@@ -89,6 +89,12 @@ pub record Socket : Type 0 where
   -- which a turn answers with 5, whatever the image, the kept readings and the value read.
   pub zero-refused : (c : TurnCall) → let g = toTurn c in g .loading ≡ zeroLoading
       → turnLeft c ≡ loadTurned (g .seen) (loadTurn BAD-STATE zeroLoading SendsNothing)
+  -- A begin that is not refused hands back the job, with no cycle named yet.
+  pub begin-given : (c : BeginCall) → let g = toBegin c in refusedBegin g ≡ 0
+      → c .back ≡ record { answer = 0; loading = loading (g .part) (g .first) (length (g .image)) (g .wp) (g .p) Waiting }
+  -- A turn answers 5 for a state that is out of range for its part and image (`loadingInRange`).
+  pub out-of-range : (c : TurnCall) → let g = toTurn c in loadingInRange (g .loading) (g .image) ≡ false
+      → turnLeft c ≡ loadTurned (g .seen) (loadTurn BAD-STATE (g .loading) SendsNothing)
   -- A turn that refuses, with a number other than 0, 11 and 12, names no cycle, and hands back the state and the kept
   -- readings as they came.
   pub turn-refuses : (c : TurnCall) → let g = toTurn c in isEnding (c .back .answer) ≡ false

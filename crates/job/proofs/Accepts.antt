@@ -78,10 +78,10 @@ standing part first count wp p e =
     record { known = a .0; aligned = s .0; whole = s .1 .0; range = s .1 .1; some = d .0; most = d .1; heeded = unprotected (rowOf part) first count wp (f .1) }
 
 -- none given at the begin: none stands, and every value fits
-pub begins : (part first : ℕ) (image : List ℕ) (wp : Bool) (p : ℕ) → beginRefusal part first image wp p ≡ 0
+pub none-stands : (part first : ℕ) (image : List ℕ) (wp : Bool) (p : ℕ) → beginRefusal part first image wp p ≡ 0
     → (standingRefusal part first (length image) wp p ≡ 0) × (fitAll (rowOf part .width) image ≡ true)
 unfolding beginRefusal rangeRefusal standingRefusal
-begins part first image wp p e =
+none-stands part first image wp p e =
     let a = none-first (partRefusal part) _ e in
     let b = zero-left (isInterval p) _ 9 (a .1) in
     let c = none-first (sectorsRefusal (rowOf part) first (length image)) _ (b .1) in
@@ -106,9 +106,9 @@ not-refused part first image wp p z lent e =
     rw (a .0, eq-eqb lent (rowOf part .cells) e) (a .1)
 
 -- a job that is begun is a right one
-pub right : (part first : ℕ) (image : List ℕ) (wp : Bool) (p : ℕ) → beginRefusal part first image wp p ≡ 0 → AcceptedJob (jobFrom part first (length image) wp p) image
-right part first image wp p e =
-    let b = begins part first image wp p e in
+pub accepted-job : (part first : ℕ) (image : List ℕ) (wp : Bool) (p : ℕ) → beginRefusal part first image wp p ≡ 0 → AcceptedJob (jobFrom part first (length image) wp p) image
+accepted-job part first image wp p e =
+    let b = none-stands part first image wp p e in
     let s = standing part first (length image) wp p (b .0) in
     record {
       known = s .known;
@@ -129,4 +129,4 @@ pub record Passed (part lent first : ℕ) (image : List ℕ) (wp : Bool) (p : �
   pub right : AcceptedJob (jobFrom part first (length image) wp p) image
 
 pub passed : (part lent first : ℕ) (image : List ℕ) (wp : Bool) (p : ℕ) → jobRefusal part lent first image wp p ≡ 0 → Passed part lent first image wp p
-passed part lent first image wp p e = let a = lent-cells part lent first image wp p e in record { whole = a .0; right = right part first image wp p (a .1) }
+passed part lent first image wp p e = let a = lent-cells part lent first image wp p e in record { whole = a .0; right = accepted-job part first image wp p (a .1) }

@@ -118,24 +118,24 @@ module _ (j : Job) (image : List ℕ) (R : AcceptedJob j image) where
   Drives (Driving t d) = inRange d ≡ true
 
   -- a loader in range, its driver too
-  pub record Sound (l : Loader) : Type 0 where
+  pub record InOrder (l : Loader) : Type 0 where
     pub range : loaderInRange j image l ≡ true
     pub drives : Drives (l .stage)
 
-  abbrev Sent-in : Cycle → Type 0
-  Sent-in c = (c .wp ≡ j .wp) × Allowed j image (c .action)
+  abbrev MaySend : Cycle → Type 0
+  MaySend c = (c .wp ≡ j .wp) × Allowed j image (c .action)
 
   abbrev pub Fine : ℕ → Turn → Type 0
-  Fine m (Play l p c) = Sound l × ((suc (loaderLeft l) ≤ m) × Sent-in c)
+  Fine m (Play l p c) = InOrder l × ((suc (loaderLeft l) ≤ m) × MaySend c)
   Fine m (Stop n) = isEnding n ≡ true
 
   pub fine-more : (m n : ℕ) (t : Turn) → m ≤ n → Fine m t → Fine n t
   fine-more m n (Play l p c) h f = (f .0, (le-trans (f .1 .0) h, f .1 .1))
   fine-more m n (Stop k) h f = f
 
-  sound-at : (s : Stage) (base i : ℕ) → base + j .size ≤ j .count → base % j .size ≡ 0 → i < j .size → stageInRange j image s base i ≡ true → Drives s → Sound (loader s base i)
+  in-order : (s : Stage) (base i : ℕ) → base + j .size ≤ j .count → base % j .size ≡ 0 → i < j .size → stageInRange j image s base i ≡ true → Drives s → InOrder (loader s base i)
   unfolding loaderInRange
-  sound-at s base i h a l t d = record { range = rw (sector-in j (loader s base i) h l, eq-eqb (base % j .size) 0 a) t; drives = d }
+  in-order s base i h a l t d = record { range = rw (sector-in j (loader s base i) h l, eq-eqb (base % j .size) 0 a) t; drives = d }
 
   -- ---- the next sector
   one-less : (b : ℕ) → b + j .size ≤ j .count → sectorsLeft b ≡ sectorLeft + sectorsLeft (b + j .size)
@@ -149,7 +149,7 @@ module _ (j : Job) (image : List ℕ) (R : AcceptedJob j image) where
   next-fine b a =
       split (Fine (sectorsLeft b)) (ltb b (j .count)) (readsCell j Scanning b 0) (Stop 0)
       (λ t. let h = next-multiple (j .size) b (j .count) a (R .whole) (ltb-true b (j .count) t) in
-      (sound-at Scanning b 0 h a some refl tt, (omega (arith, one-less b h, some), (refl, reads (b + 0) (omega (arith, some))))))
+      (in-order Scanning b 0 h a some refl tt, (omega (arith, one-less b h, some), (refl, reads (b + 0) (omega (arith, some))))))
       (λ _. refl)
 
   -- ---- one sector
@@ -166,7 +166,7 @@ module _ (j : Job) (image : List ℕ) (R : AcceptedJob j image) where
         split (Fine ((j .size - i) * (1 + P) + beyond)) (ltb i (j .size)) (readsCell j Looking base i) (nextSector j (base + j .size))
         (λ t. let h = ltb-true i (j .size) t in
         let e : j .size - i ≡ suc (j .size - (i + 1)) = omega arith in
-        (sound-at Looking base i inside aligned h refl tt, (looks (j .size - i) (j .size - (i + 1)) e, (refl, reads (base + i) (omega arith)))))
+        (in-order Looking base i inside aligned h refl tt, (looks (j .size - i) (j .size - (i + 1)) e, (refl, reads (base + i) (omega arith)))))
         (λ _. fine-more beyond _ (nextSector j (base + j .size)) (omega arith) then-next)
       where
         looks : (u v : ℕ) → u ≡ suc v → suc (v + u * P + beyond) ≤ u * (1 + P) + beyond
@@ -222,7 +222,7 @@ module _ (j : Job) (image : List ℕ) (R : AcceptedJob j image) where
           let u = stepOf d read .driver in
           let w : sameAsked u (askedFor j image task base i) ≡ true = ap (λ (u : Driver). sameAsked u (askedFor j image task base i)) (asks-on d read) ∙ (moved-asks d _ _ (askedFor j image task base i) ∙ s) in
           let f : leftFrom (Send e a) u ≤ left d = rw q at (falls d read) in
-          (sound-at (Driving task u) base i inside aligned there w (keeps d read v), (omega (arith, f), (refl, names-allowed d read e a s q)))
+          (in-order (Driving task u) base i inside aligned there w (keeps d read v), (omega (arith, f), (refl, names-allowed d read e a s q)))
 
       -- its first step
       first-fine : (d : Driver) (x : Next) → stepOf d 0 .next ≡ x → inRange d ≡ true → sameAsked d (askedFor j image task base i) ≡ true
@@ -321,12 +321,12 @@ module _ (j : Job) (image : List ℕ) (R : AcceptedJob j image) where
     unfolding scannedOf
     stage-fine Scanning i seen read h t d =
         split (Fine (stageLeft Scanning i + beyond)) (ltb (i + 1) (j .size)) (readsCell j Scanning base (i + 1)) (decideOf j image seen base)
-        (λ l. let n : i + 1 < j .size = ltb-true (i + 1) (j .size) l in (sound-at Scanning base (i + 1) inside aligned n refl tt, (omega arith, (refl, reads (base + (i + 1)) (omega arith)))))
+        (λ l. let n : i + 1 < j .size = ltb-true (i + 1) (j .size) l in (in-order Scanning base (i + 1) inside aligned n refl tt, (omega arith, (refl, reads (base + (i + 1)) (omega arith)))))
         (λ _. fine-more _ _ (decideOf j image seen base) (omega arith) (decide-fine seen))
     stage-fine Looking i seen read h t d = burn-fine i read h
     stage-fine (Driving task d) i seen read h t v = driven-fine task i d read (stepOf d read .next) refl h v t
 
-  pub turn-fine : (l : Loader) (seen : List ℕ) (read : ℕ) → Sound l → Fine (loaderLeft l) (turnOf j image seen l read .turn)
+  pub turn-fine : (l : Loader) (seen : List ℕ) (read : ℕ) → InOrder l → Fine (loaderLeft l) (turnOf j image seen l read .turn)
   unfolding turnOf loaderInRange
   turn-fine l seen read s =
       let a = both _ _ (s .range) in

@@ -19,12 +19,12 @@ use Rattle.job.specs.declared.loading.Sending.the-variants.{SendsNothing
 use Rattle.job.specs.Fits.{JobFits}
 use Rattle.job.specs.Refusal.{beginRefusal, standingRefusal}
 use Rattle.job.specs.Loading.{sameAsked, progressInRange, jobIn, loadingInRange, loadTurn, loadTurned, progressOf, loadTurnOf, jobTurn}
-use Rattle.job.proofs.Accepts.{standing, begins, sector-most}
+use Rattle.job.proofs.Accepts.{standing, none-stands, sector-most}
 
 -- an image that a begin takes is a part's at most
 pub begun-few : (part first : ℕ) (image : List ℕ) (wp : Bool) (p : ℕ) → beginRefusal part first image wp p ≡ 0 → length image ≤ 4194304
 begun-few part first image wp p z =
-    let s = standing part first (length image) wp p (begins part first image wp p z .0) in
+    let s = standing part first (length image) wp p (none-stands part first image wp p z .0) in
     omega (arith, s .range, cells-most part (s .known))
 
 -- two drivers of one part, command, address and data ask for the same where their p is one
@@ -50,9 +50,9 @@ alike d e h =
 
 -- ---- a turn, by how far the job is
 module _ (g : Loading) (j : Job) (image seen : List ℕ) (read : ℕ) where
-  pub beyond : progressInRange j image (g .progress) ≡ false → jobTurn g j image seen read ≡ loadTurned seen (loadTurn 5 g SendsNothing)
+  pub out-of-progress : progressInRange j image (g .progress) ≡ false → jobTurn g j image seen read ≡ loadTurned seen (loadTurn 5 g SendsNothing)
   unfolding jobTurn
-  beyond f = rw f
+  out-of-progress f = rw f
 
   pub goes-by : (x : Progress) → g .progress ≡ x → progressInRange j image (g .progress) ≡ true → jobTurn g j image seen read ≡ progressOf g j image seen x read
   unfolding jobTurn

@@ -34,9 +34,9 @@ use Rattle.job.specs.Bill.{jobFrom, played, loadOf}
 use Rattle.job.specs.Loading.{loading, beginLoad, isEnding, progressInRange, movedTo, loadTurn, stopsWith, taken, LoadTurned, loadTurned, takes, progressOf, loadTurnOf}
 use Rattle.job.specs.Socket.{LoadTold, loadTold, toldAfter, loadTalk, LoadHeard, loadHeardOf, heardAfter, loadHeard, HasLoaded, operationMost, cyclesMost, AllAllowed, HasEnded}
 use Rattle.job.proofs.AcceptedJob.{AcceptedJob}
-use Rattle.job.proofs.Accepts.{begins, right, not-refused, sector-most}
+use Rattle.job.proofs.Accepts.{none-stands, accepted-job, not-refused, sector-most}
 use Rattle.job.proofs.InRange.{turns-job, goes-by}
-use Rattle.job.proofs.Falls.{operationLeft, sectorLeft, sectorsLeft, loaderLeft, Sound, Fine, next-fine, turn-fine}
+use Rattle.job.proofs.Falls.{operationLeft, sectorLeft, sectorsLeft, loaderLeft, InOrder, Fine, next-fine, turn-fine}
 use Rattle.job.proofs.Rest.{chipOf, Pass, pass, ahead, passOf, Rest}
 use Rattle.job.proofs.Runs.{all-rest}
 
@@ -46,7 +46,7 @@ module _ (part first : ℕ) (image : List ℕ) (wp : Bool) (p : ℕ) (begun : be
   j = jobFrom part first (length image) wp p
 
   R : AcceptedJob j image
-  R = right part first image wp p begun
+  R = accepted-job part first image wp p begun
 
   abbrev state : Progress → Loading
   state x = loading part first (length image) wp p x
@@ -55,7 +55,7 @@ module _ (part first : ℕ) (image : List ℕ) (wp : Bool) (p : ℕ) (begun : be
   in-range : (x : Progress) (seen : List ℕ) (read : ℕ) → progressInRange j image x ≡ true → T (state x) seen read ≡ progressOf (state x) j image seen x read
   in-range x seen read h =
       keeps (state x) seen read
-      ∙ (turns-job (state x) image seen read (begins part first image wp p begun .0) refl ∙ goes-by (state x) j image seen read x refl h)
+      ∙ (turns-job (state x) image seen read (none-stands part first image wp p begun .0) refl ∙ goes-by (state x) j image seen read x refl h)
 
   -- the end is the same from every state of the job
   stops : (x : Progress) (n : ℕ) → isEnding n ≡ true → stopsWith (state x) n ≡ loadTurn n (state (Over n)) SendsNothing
@@ -77,7 +77,7 @@ module _ (part first : ℕ) (image : List ℕ) (wp : Bool) (p : ℕ) (begun : be
   unfolding beginLoad
   first-turn seen read = rw begun (in-range Waiting seen read refl)
 
-  next-turn : (l : Loader) (seen : List ℕ) (read : ℕ) → Sound j image R l → T (state (Within l)) seen read ≡ shown (turnOf j image seen l read)
+  next-turn : (l : Loader) (seen : List ℕ) (read : ℕ) → InOrder j image R l → T (state (Within l)) seen read ≡ shown (turnOf j image seen l read)
   next-turn l seen read s =
       in-range (Within l) seen read (s .range)
       ∙ ap (loadTurned (turnOf j image seen l read .seen)) (same (Within l) (loaderLeft j image R l) (turnOf j image seen l read .turn) (turn-fine j image R l seen read s))
@@ -147,8 +147,8 @@ module _ (part first : ℕ) (image : List ℕ) (wp : Bool) (p : ℕ) (begun : be
 
   -- ---- against the model
   -- a talk is a run of the loader
-  abbrev Runs : ℕ → World → Turned → LoadTold
-  Runs n w t = loadTold (passOf j image n t w .sent) (chipOf (runOf j image n t w)) (shown (passOf j image n t w .turn))
+  abbrev ran : ℕ → World → Turned → LoadTold
+  ran n w t = loadTold (passOf j image n t w .sent) (chipOf (runOf j image n t w)) (shown (passOf j image n t w .turn))
 
   talk-stops : (n k : ℕ) (seen : List ℕ) (h : Chip) → isEnding k ≡ true → loadTalk T part (suc n) (shown (turned seen (Stop k))) h ≡ loadTold [] h (shown (turned seen (Stop k)))
   unfolding loadTalk
@@ -158,14 +158,14 @@ module _ (part first : ℕ) (image : List ℕ) (wp : Bool) (p : ℕ) (begun : be
   abbrev turnAfter : World → Loader → Purpose → Cycle → List ℕ → Turned
   turnAfter w l q c seen = turnOf j image seen l (sendOf part w q c .held .reply)
 
-  talk-more : (n : ℕ) (w : World) (l : Loader) (q : Purpose) (c : Cycle) (seen : List ℕ) → Sound j image R l
-      → loadTalk T part n (shown (turnAfter w l q c seen)) (chipOf (sendOf part w q c)) ≡ Runs n (sendOf part w q c) (turnAfter w l q c seen)
-      → loadTalk T part n (T (state (Within l)) seen (shows part (chipOf w) c)) (after part (chipOf w) c) ≡ Runs n (sendOf part w q c) (turnAfter w l q c seen)
+  talk-more : (n : ℕ) (w : World) (l : Loader) (q : Purpose) (c : Cycle) (seen : List ℕ) → InOrder j image R l
+      → loadTalk T part n (shown (turnAfter w l q c seen)) (chipOf (sendOf part w q c)) ≡ ran n (sendOf part w q c) (turnAfter w l q c seen)
+      → loadTalk T part n (T (state (Within l)) seen (shows part (chipOf w) c)) (after part (chipOf w) c) ≡ ran n (sendOf part w q c) (turnAfter w l q c seen)
   unfolding sendOf after
   talk-more n w l q c seen s h =
       ap (λ (u : LoadTurned). loadTalk T part n u (chipOf (sendOf part w q c))) (next-turn l seen (sendOf part w q c .held .reply) s) ∙ h
 
-  talk-is : (n : ℕ) (w : World) (m : ℕ) (seen : List ℕ) (x : Turn) → Fit m x → loadTalk T part n (shown (turned seen x)) (chipOf w) ≡ Runs n w (turned seen x)
+  talk-is : (n : ℕ) (w : World) (m : ℕ) (seen : List ℕ) (x : Turn) → Fit m x → loadTalk T part n (shown (turned seen x)) (chipOf w) ≡ ran n w (turned seen x)
   unfolding loadTalk
   talk-is zero w m seen x e = refl
   talk-is (suc n) w m seen (Stop k) e = talk-stops n k seen (chipOf w) e
@@ -190,7 +190,7 @@ module _ (part first : ℕ) (image : List ℕ) (wp : Bool) (p : ℕ) (begun : be
     abbrev talked : ℕ → LoadTold
     talked n = loadTalk T part n (T (beginLoad part first image wp p .loading) seen read) (chip cells freshDevice)
 
-    begins-talk : (n : ℕ) → talked n ≡ Runs n (world cells noneSent) (turned seen (nextSector j 0))
+    begins-talk : (n : ℕ) → talked n ≡ ran n (world cells noneSent) (turned seen (nextSector j 0))
     begins-talk n =
         ap (λ (t : LoadTurned). loadTalk T part n t (chip cells freshDevice)) (first-turn seen read)
         ∙ talk-is n (world cells noneSent) (sectorsLeft j image R 0) seen (nextSector j 0) (next-fine j image R 0 (zero-mod (j .size)))

@@ -62,18 +62,18 @@ module _ (j : Job) (image : List ℕ) where
   abbrev pub Passes : ℕ → Turned → World → List Sent → Type 0
   Passes k t w L = (passOf j image k t w .sent ≡ take k L) × (length L ≤ k → passOf j image k t w .turn .turn ≡ Stop 0)
 
-  abbrev Runs : ℕ → Turned → World → List Sent → Type 0
-  Runs k t w L = (runOf j image k t w ≡ playOf (j .part) w (take k L)) × ((stopOf j image k t w ≡ 0) × Passes k t w L)
+  abbrev RunsTo : ℕ → Turned → World → List Sent → Type 0
+  RunsTo k t w L = (runOf j image k t w ≡ playOf (j .part) w (take k L)) × ((stopOf j image k t w ≡ 0) × Passes k t w L)
 
   -- from a turn on, the cycles to come are L, and the loader stops with 0
   unfoldable pub Rest : Turned → World → List Sent → Type 0
-  Rest t w L = (k : ℕ) → Runs k t w L
+  Rest t w L = (k : ℕ) → RunsTo k t w L
 
   pub rest-none : (seen : List ℕ) (w : World) → Rest (turned seen (Stop 0)) w []
   unfolding Rest
   rest-none seen w = λ k. by k
     where
-      by : (k : ℕ) → Runs k (turned seen (Stop 0)) w []
+      by : (k : ℕ) → RunsTo k (turned seen (Stop 0)) w []
       by zero = (refl, (refl, (refl, λ _. refl)))
       by (suc k) = (refl, (refl, (refl, λ _. refl)))
 
@@ -82,7 +82,7 @@ module _ (j : Job) (image : List ℕ) where
   unfolding Rest
   rest-more seen l p c w L h = λ k. by k
     where
-      by : (k : ℕ) → Runs k (turned seen (Play l p c)) w (sent p c ∷ L)
+      by : (k : ℕ) → RunsTo k (turned seen (Play l p c)) w (sent p c ∷ L)
       by zero = (refl, (refl, (refl, λ le. absurd (not-suc-le-zero le))))
       by (suc k) = let g = h k in (g .0, (g .1 .0, (ap (λ (ss : List Sent). sent p c ∷ ss) (g .1 .1 .0), λ le. g .1 .1 .1 (le-of-suc-le-suc le))))
 

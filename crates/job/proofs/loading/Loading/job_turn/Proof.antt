@@ -3,13 +3,13 @@ use mathlib.Core.Path.{ap, sym, _∙_}
 use borrow.Author.Tests.{not-true, not-false}
 use borrow.Author.Needs.{needs}
 use Rattle.job.specs.Loading.{LoadTurned, taken}
-use Rattle.job.proofs.InRange.{beyond, goes-by}
+use Rattle.job.proofs.InRange.{out-of-progress, goes-by}
 use Rattle.job.proofs.loading.Loading.job_turn.Statement.{statement}
 use Rattle.job.proofs.loading.Loading.job_turn.Tie as tie
 
 returns : tie.Need-returns
 returns c = let g = c .before .before .before .before .args in
-    let e = sym (beyond (g .self) (g .job) (g .image .now) (g .seen .now) (g .read) (sym (c .before .before .progress-in-range .ensures) ∙ not-true _ (c .before .if1 .taken))) in
+    let e = sym (out-of-progress (g .self) (g .job) (g .image .now) (g .seen .now) (g .read) (sym (c .before .before .progress-in-range .ensures) ∙ not-true _ (c .before .if1 .taken))) in
     (c .answers .ensures ∙ ap (λ (t : LoadTurned). t .turn) e, ap (λ (t : LoadTurned). t .seen) e)
 
 returns-2 : tie.Need-returns-2
