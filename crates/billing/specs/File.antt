@@ -4,7 +4,7 @@ use mathlib.Core.List.{List}
 use lib.Dec.{ltb}
 use lib.ListN.{length, replicate}
 use Rattle.parts.specs.Names.{BAD-FILE}
-use Rattle.parts.specs.Pick.{pick, _when_, _else_}
+use Rattle.parts.specs.Pick.{_when_, _else_}
 use Rattle.job.specs.declared.bill.Bill.{Bill}
 use Rattle.job.specs.Bill.{loadOf, refusedBill}
 use Rattle.jobfile.specs.declared.trailer.JobFile.{JobFile}

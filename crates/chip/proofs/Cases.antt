@@ -1,24 +1,33 @@
 -- What a cycle does, case by case: callers cite these laws and not the definition's text.
-use Prim.Native.Nat.{ℕ, _-_, _≤_, _<_}
+use Prim.Native.Nat.{ℕ, _+_, _-_, _*_, _/_, _%_, _^_, _≤_, _<_}
 use mathlib.Core.Path.{_≡_, refl, _∙_}
 use mathlib.Core.Bool.{Bool, true, false}
 use mathlib.Core.List.{List}
 use native.Mathlib.Omega.{arith}
 use borrow.Author.Tests.{lt-ltb, le-ltb, ne-eqb}
+use lib.Dec.{eqb}
 use lib.ListN.{length, getD}
+use lib.Pow.{pow-mono}
+use Rattle.parts.specs.Pick.{pick}
 use Rattle.parts.specs.Width.{valueOf, fitsIn}
 use Rattle.parts.specs.Table.{rowOf, partRefusal}
 use Rattle.parts.specs.declared.table.Row.{Row}
+use Rattle.parts.proofs.Every.{split}
+use Rattle.parts.proofs.Values.{value-lt}
+use Rattle.parts.proofs.Sound.{width-most, device-word}
+use Rattle.commands.specs.declared.effect.Mode.{Mode}
+use Rattle.commands.specs.declared.effect.Mode.the-variants.{ReadMode, Identification}
 use Rattle.chip.specs.declared.device.Core.{Core}
 use Rattle.chip.specs.declared.device.Device.{Device}
 use Rattle.chip.specs.declared.cycle.Action.{Action}
 use Rattle.chip.specs.declared.cycle.Action.the-variants.{Read, Write, Idle, Cut}
 use Rattle.chip.specs.declared.cycle.Cycle.{Cycle}
+use Rattle.chip.specs.declared.cycle.Shown.{Shown}
 use Rattle.chip.specs.Device.{withLeft, toggled, withRunning, atRest, busy, device, coreInRange, coreIdle}
 use Rattle.chip.specs.Operation.{completeOn}
 use Rattle.commands.specs.Commands.{effectOf}
 use Rattle.chip.specs.Sequence.{afterEffect, writtenOf}
-use Rattle.chip.specs.Cycle.{Chip, chip, cycle, outcome, reply, settled, settledOf, status, readOf, actedOf, actionRefusal, cycleRefusal, acceptedOf, cycleOf}
+use Rattle.chip.specs.Cycle.{Chip, chip, cycle, outcome, reply, settled, settledOf, status, shownOf, readOf, Outcome, actedOf, actionRefusal, cycleRefusal, acceptedOf, cycleOf}
 use Rattle.chip.specs.Trace.{after, effectStarts, startedBy}
 use Rattle.chip.proofs.Accepted.{Accepted, accepting, Valid, valid-range, rest-range, in-range, stage-none, stage-rests}
 use Rattle.chip.proofs.Idle.{idle-rests, idle-reads, idle-range}
@@ -40,6 +49,32 @@ acted-answers r h wp (Read a) = refl
 acted-answers r h wp (Write a x) = refl
 acted-answers r h wp Idle = refl
 acted-answers r h wp (Cut c) = refl
+
+-- the value that a known part's chip shows is a word
+acted-word : (part : ℕ) → partRefusal part ≡ 0 → (h : Chip) (wp : Bool) (a : Action) → actedOf (rowOf part) h wp a .reply .value < 2 ^ 16
+unfolding readOf
+acted-word part known h wp (Read a) =
+    split (λ (s : Shown). s .value < 2 ^ 16) (busy (h .device .core)) _ _
+    (λ _. busy-word (eqb (h .device .core .running .kind) 0) (h .device .core .running .toggle)) (λ _. rest-word (h .device .core .mode))
+  where
+    busy-word : (z t : Bool) → pick z (1 - h .device .core .running .«data» / 128 % 2) 0 * 128 + pick t 1 0 * 64 < 2 ^ 16
+    busy-word true true = omega arith
+    busy-word true false = omega arith
+    busy-word false true = omega arith
+    busy-word false false = omega arith
+
+    rest-word : (m : Mode) → shownOf (rowOf part) (h .cells) m a < 2 ^ 16
+    rest-word ReadMode = omega (arith, value-lt (rowOf part .width) (getD (h .cells) a 0), pow-mono (width-most part known))
+    rest-word Identification =
+        split (λ (n : ℕ). n < 2 ^ 16) (eqb a 0) _ _ (λ _. omega arith) (λ _. split (λ (n : ℕ). n < 2 ^ 16) (eqb a 1) _ _ (λ _. omega (arith, device-word part known)) (λ _. omega arith))
+acted-word part known h wp (Write a x) = omega arith
+acted-word part known h wp Idle = omega arith
+acted-word part known h wp (Cut c) = omega arith
+
+pub shown-word : (part : ℕ) → partRefusal part ≡ 0 → (cells : List ℕ) (d : Device) (c : Cycle) → cycleOf part cells d c .reply .value < 2 ^ 16
+unfolding cycleOf acceptedOf
+shown-word part known cells d c =
+    split (λ (o : Outcome). o .reply .value < 2 ^ 16) (eqb (cycleRefusal part (length cells) d (c .action)) 0) _ _ (λ _. acted-word part known _ (c .wp) (c .action)) (λ _. omega arith)
 
 -- ---- time
 module _ (r : Row) (cells : List ℕ) (k : Core) (e : ℕ) where

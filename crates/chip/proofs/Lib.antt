@@ -3,6 +3,7 @@ pub mod Bits
 pub mod Leaves
 pub mod Accepted
 pub mod Idle
+pub mod Sampled
 pub mod Settled
 pub mod Cases
 pub mod Started

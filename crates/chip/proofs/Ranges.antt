@@ -15,6 +15,7 @@ use Rattle.parts.proofs.Every.{split}
 use Rattle.commands.specs.declared.effect.Mode.{Mode}
 use Rattle.commands.specs.declared.effect.Mode.the-variants.{ReadMode}
 use Rattle.chip.specs.declared.device.Core.{Core}
+use Rattle.chip.specs.declared.device.Operation.{Operation}
 use Rattle.chip.specs.declared.device.Device.{Device}
 use Rattle.commands.specs.declared.effect.Effect.{Effect}
 use Rattle.commands.specs.declared.effect.Effect.the-variants.{Goes, Starts, Enters}
@@ -23,13 +24,14 @@ use Rattle.chip.specs.declared.cycle.Action.the-variants.{Read, Write, I
 use Rattle.chip.specs.declared.cycle.Cycle.{Cycle}
 use Rattle.chip.specs.declared.cycle.Shown.{Shown}
 use Rattle.chip.specs.Device.{toggled, inMode, withRunning, busyWith, freshCore, busy, device, withCore, stageInRange, deviceInRange}
-use Rattle.chip.specs.Sequence.{ignored, newOperation, afterEffect, writtenOf}
+use Rattle.chip.specs.Sequence.{newOperation, afterEffect, writtenOf}
 use Rattle.chip.specs.Cycle.{Chip, Outcome, readOf, cutOf, actionRefusal, cycleRefusal, afterTime, actedOf, acceptedOf, cycleOf}
 use Rattle.chip.specs.Needs.{RunsInside}
 use Rattle.chip.specs.Trace.{after, play}
 use Rattle.chip.proofs.Accepted.{Accepted, accepted, Valid, busy-valid, valid-range, rest-range, in-range, ranges, stage-none, stage-rests, write-there, runs-inside}
 use Rattle.chip.proofs.Settled.{settled-length, after-time-range, cut-length}
 use Rattle.commands.proofs.Effects.{effect-is}
+use Rattle.chip.proofs.Sampled.{sampled}
 use Rattle.chip.proofs.Cases.{accepted-cycle}
 
 -- ---- a state in range stays so
@@ -67,7 +69,7 @@ module _ (r : Row) (d : Device) (i : deviceInRange r d ≡ true) where
 
       starts : busy k ≡ false → (c : ℕ) → hasCommand r c ≡ true → Leaves (Starts c)
       starts b c h =
-          split (λ (k : Core). InRange (device k 0)) (ignored r wp c a) (inMode k ReadMode) (busyWith k (newOperation r c a x)) (λ _. enters b ReadMode)
+          sampled (λ (k : Core) (ops : List Operation). InRange (device k 0)) r k wp a x c (λ _. enters b ReadMode)
           (λ _. let n = busyWith k (newOperation r c a x) in
           in-range r n 0 (stage-none n) (valid-range r n (record { command = h; time = le-refl _; there = there; fits = fits; mode = refl })))
 

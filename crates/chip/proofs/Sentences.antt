@@ -25,13 +25,13 @@ use Rattle.chip.specs.declared.cycle.Cycle.{Cycle}
 use Rattle.chip.specs.declared.cycle.Shown.{Shown}
 use Rattle.chip.specs.Device.{noOperation, busy, device, freshDevice, core, inMode, deviceInRange}
 use Rattle.commands.specs.Commands.{broken, effectOf}
-use Rattle.chip.specs.Sequence.{ignored, afterEffect, writtenOf}
+use Rattle.chip.specs.Sequence.{afterEffect, writtenOf}
 use Rattle.chip.specs.Cycle.{cycle, Chip, chip, Outcome, outcome, identity, readOf, cutOf, settledOf, Settled, afterTime, actionRefusal, cycleRefusal, actedOf, acceptedOf, cycleOf}
 use Rattle.chip.specs.Trace.{leaves, after, play, effectStarts, actionStarts, startedBy, startedIn}
 use Rattle.chip.proofs.Accepted.{accepted}
 use Rattle.chip.proofs.Cases.{accepted-cycle, refused-cycle, rests, write-leaves, write-starts}
 use Rattle.commands.proofs.Effects.{effect-is}
-use Rattle.chip.proofs.Trace.{twice}
+use Rattle.chip.proofs.Sampled.{twice, sampled}
 use Rattle.commands.proofs.Broken.{continues, is-broken, resets, no-blocks}
 use Rattle.chip.proofs.Ranges.{after-range}
 
@@ -154,7 +154,7 @@ start-ends-modes part h c o os =
 
     starts : (k : Core) (wp : Bool) (a x n : ℕ) → Ends (afterEffect r k wp a x (Starts n)) (effectStarts r wp a x (Starts n))
     starts k wp a x n =
-        twice (λ (k : Core) (ops : List Operation). Ends (device k 0) ops) (ignored r wp n a) _ _ _ _ (λ _ q. nothing o os q)
+        sampled (λ (k : Core) (ops : List Operation). Ends (device k 0) ops) r k wp a x n (λ _ q. nothing o os q)
         (λ _ q. ap (λ (l : List Operation). device (core ReadMode (getD l 0 noOperation)) 0) q)
 
     writes : (d : Device) (wp : Bool) (a x : ℕ) → Ends (writtenOf r d wp a x) (actionStarts r d wp (Write a x))

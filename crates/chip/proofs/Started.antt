@@ -1,8 +1,8 @@
 -- The operations that cycles start: the part's, in the order of the cycles; none by a read.
 use Prim.Native.Nat.{ℕ, zero, suc, _<_}
-use mathlib.Core.Path.{_≡_, refl, sym, ap, ap₂, _∙_}
+use mathlib.Core.Path.{_≡_, refl, sym, ap, _∙_}
 use mathlib.Core.Bool.{Bool, true}
-use mathlib.Core.List.{List, [], _∷_, _++_, append-assoc}
+use mathlib.Core.List.{List, [], _∷_, _++_, append-assoc, append-nil}
 use borrow.Author.Tests.{eqb-true}
 use lib.Dec.{eqb}
 use lib.ListN.{length, replicate}
@@ -86,18 +86,31 @@ pub record Moves (part : ℕ) (h : Chip) (c : Cycle) (h′ : Chip) (os : List Op
   pub left : after part h c ≡ h′
   pub starts : startedBy part h c ≡ os
 
+-- of the cycles only the last one starts anything: the operations os
+abbrev pub LastStarts : ℕ → Chip → List Cycle → List Operation → Type 0
+LastStarts part h [] os = os ≡ []
+LastStarts part h (c ∷ []) os = startedBy part h c ≡ os
+LastStarts part h (c ∷ (d ∷ cs)) os = (startedBy part h c ≡ []) × LastStarts part (after part h c) (d ∷ cs) os
+
+-- and so do all of them together
+pub last-starts-all : (part : ℕ) (h : Chip) (cs : List Cycle) (os : List Operation) → LastStarts part h cs os → startedIn part h cs ≡ os
+last-starts-all part h [] os l = sym l
+last-starts-all part h (c ∷ []) os l = append-nil (startedBy part h c) ∙ l
+last-starts-all part h (c ∷ (d ∷ cs)) os l = rw (l .0) (last-starts-all part (after part h c) (d ∷ cs) os (l .1))
+
 pub record Leads (part : ℕ) (h : Chip) (cs : List Cycle) (h′ : Chip) (os : List Operation) : Type 0 where
   pub played : play part h cs ≡ h′
-  pub begun : startedIn part h cs ≡ os
+  pub last : LastStarts part h cs os
 
-pub stays : (part : ℕ) (h : Chip) → Leads part h [] h []
-stays part h = record { played = refl; begun = refl }
+pub ends : {part : ℕ} {h h′ : Chip} {c : Cycle} {os : List Operation} → Moves part h c h′ os → Leads part h (c ∷ []) h′ os
+ends m = record { played = m .left; last = m .starts }
 
-pub then : {part : ℕ} {h h₁ h₂ : Chip} {c : Cycle} {cs : List Cycle} {os ps : List Operation} → Moves part h c h₁ os → Leads part h₁ cs h₂ ps → Leads part h (c ∷ cs) h₂ (os ++ ps)
-then {part} {h} {h₁} {h₂} {c} {cs} m l =
+pub then : {part : ℕ} {h h₁ h₂ : Chip} {c d : Cycle} {cs : List Cycle} {os : List Operation}
+    → Moves part h c h₁ [] → Leads part h₁ (d ∷ cs) h₂ os → Leads part h (c ∷ (d ∷ cs)) h₂ os
+then {part} {h} {h₁} {h₂} {c} {d} {cs} {os} m l =
     record {
-      played = ap (λ (h : Chip). play part h cs) (m .left) ∙ l .played;
-      begun = ap₂ {A = List Operation} {B = List Operation} {C = List Operation} (λ a b. a ++ b) (m .starts) (ap (λ (h : Chip). startedIn part h cs) (m .left) ∙ l .begun);
+      played = ap (λ (h : Chip). play part h (d ∷ cs)) (m .left) ∙ l .played;
+      last = (m .starts, rw (m .left) (l .last));
     }
 
 -- ---- no cut

@@ -24,17 +24,13 @@ use Rattle.chip.specs.declared.cycle.Shown.{Shown}
 use Rattle.chip.specs.Device.{busy, idle}
 use Rattle.chip.specs.Operation.{cellsOf, completeOn}
 use Rattle.commands.specs.Commands.{effectOf}
-use Rattle.chip.specs.Sequence.{ignored, coreAfter, writtenOf}
+use Rattle.chip.specs.Sequence.{coreAfter, writtenOf}
 use Rattle.chip.specs.Cycle.{Chip, Outcome, Settled, settledOf, afterTime, readOf, actedOf, cycleRefusal, acceptedOf, cycleOf}
 use Rattle.chip.specs.Trace.{leaves, after, play, effectStarts, actionStarts, startedBy, startedIn, completeAll, uncutAction, uncut}
 use Rattle.chip.proofs.Accepted.{Accepted, accepted}
 use Rattle.chip.proofs.Idle.{idle-is, idle-rests}
+use Rattle.chip.proofs.Sampled.{twice, sampled}
 use Rattle.commands.proofs.Effects.{effect-is}
-
--- two choices by one test
-pub twice : {A B : Type 0} (P : A → B → Type 0) (b : Bool) (x y : A) (u v : B) → (b ≡ true → P x u) → (b ≡ false → P y v) → P (pick b x y) (pick b u v)
-twice P true x y u v f g = f refl
-twice P false x y u v f g = g refl
 
 -- every command takes some time
 timely : (part : ℕ) → partRefusal part ≡ 0 → (k : ℕ) → hasCommand (rowOf part) k ≡ true → 0 < timeOf (rowOf part) k
@@ -72,7 +68,7 @@ module _ (r : Row) (cells : List ℕ) (k : Core) where
   unfolding coming
   effect-coming s wp a x time b =
       effect-is (λ (e : Effect). Comes (coreAfter r k wp a x e) (effectStarts r wp a x e)) r s a x (λ _ _. refl)
-      (λ c h. twice Comes (ignored r wp c a) _ _ _ _ (λ _. refl) (λ _. rw (b, lt-ltb 0 (timeOf r c) (time c h)))) (λ _. refl)
+      (λ c h. sampled Comes r k wp a x c (λ _. refl) (λ _. rw (b, lt-ltb 0 (timeOf r c) (time c h)))) (λ _. refl)
     where
       Comes : Core → List Operation → Type 0
       Comes n os = coming r cells n ≡ completeAll r os (coming r cells k)

@@ -30,13 +30,13 @@ use Rattle.chip.specs.declared.cycle.Action.{Action}
 use Rattle.chip.specs.declared.cycle.Action.the-variants.{Read, Write, Idle, Cut}
 use Rattle.chip.specs.declared.cycle.Cycle.{Cycle}
 use Rattle.chip.specs.declared.cycle.Shown.{Shown}
-use Rattle.commands.specs.declared.effect.Mode.the-variants.{ReadMode}
 use Rattle.commands.specs.declared.effect.Effect.{Effect}
-use Rattle.chip.specs.Device.{busy, inMode, busyWith}
+use Rattle.chip.specs.Device.{busy}
 use Rattle.chip.specs.Operation.{cellsOf, over, finished, scarred, completeOn, cutOn}
 use Rattle.chip.specs.Sequence.{ignored, newOperation, afterEffect, writtenOf}
 use Rattle.chip.specs.Cycle.{Chip, Settled, Outcome, settledOf, afterTime, readOf, cutOf, actedOf, acceptedOf, cycleRefusal, cycleOf}
 use Rattle.chip.specs.Trace.{after, play, uncutAction, uncut}
+use Rattle.chip.proofs.Sampled.{sampled}
 use Rattle.chip.proofs.Accepted.{Accepted, accepted, busy-valid, ranges}
 use Rattle.chip.proofs.Settled.{after-time-range}
 use Rattle.commands.proofs.Effects.{effect-is}
@@ -249,12 +249,7 @@ module _ (part : ℕ) (known : partRefusal part ≡ 0) (i : ℕ) (protected : ho
   write-safe d a x s =
       split (λ (n : Device). Spares (n .core)) (busy (d .core)) _ _ (λ _. s)
       (λ _. effect-is (λ (e : Effect). Spares (afterEffect r (d .core) false a x e .core)) r (d .stage) a x (λ _ _. s)
-      (λ c h. started c h (ignored r false c a) refl) (λ _. s))
-    where
-      started : (c : ℕ) → hasCommand r c ≡ true → (b : Bool) → ignored r false c a ≡ b
-          → Spares (pick b (inMode (d .core) ReadMode) (busyWith (d .core) (newOperation r c a x)))
-      started c h true g = s
-      started c h false g = λ _. spared (newOperation r c a x) h g
+      (λ c h. sampled (λ (k : Core) (ops : List Operation). Spares k) r (d .core) false a x c (λ _. s) (λ g _. spared (newOperation r c a x) h g)) (λ _. s))
 
   acts-safe : (h : Chip) (a : Action) → uncutAction a ≡ true → Spares (h .device .core) → Safe (h .cells) (actedOf r h false a .cells) (actedOf r h false a .reply .device .core)
   unfolding readOf cellsOf

@@ -253,7 +253,7 @@ fn act(cells: &mut [u16], row: Row, d: Device, wp: bool, action: Action) -> Repl
 pub fn bus_cycle(part: u32, cells: &mut [u16], device: Device, cycle: Cycle) -> Reply
     ensures { λ r. ⌜ (r ≡ cycleOf part (now (cells .entry)) device cycle .reply) × (now (cells .exit) ≡ cycleOf part (now (cells .entry)) device cycle .cells) ⌝ }
 {
-    let found = parts::part_row(part);
+    let found = table::part_row(part);
     let action = cycle.action;
     let answer = cycle_refusal(found, cells.len(), device, action);
     if 0 < answer {

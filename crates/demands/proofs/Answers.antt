@@ -9,8 +9,8 @@ use lib.ListN.{getD}
 use Rattle.parts.specs.Pick.{pick}
 use Rattle.parts.specs.Width.{valueOf}
 use Rattle.parts.specs.Table.{rowOf}
-use Rattle.parts.specs.Figures.{figureOf}
-use Rattle.parts.specs.declared.figure.Figure.{Figure}
+use Rattle.table.specs.Figures.{figureOf}
+use Rattle.table.specs.declared.figure.Figure.{Figure}
 use Rattle.parts.specs.declared.table.Row.{Row}
 use Rattle.parts.proofs.Every.{apart, split}
 use Rattle.parts.proofs.Refused.{zero-left, none-first}

@@ -10,9 +10,9 @@ use lib.ListN.{length, List·getD-eq-default}
 use Rattle.parts.specs.Pick.{pick, _unless_, _else_, _orElse_}
 use Rattle.parts.specs.Width.{valueOf}
 use Rattle.parts.specs.Table.{noLine, lines, lineOf, rowFrom, rowOf, partRefusal, foundOf}
-use Rattle.parts.specs.Figures.{figure, figureRefusal, figureOf}
+use Rattle.table.specs.Figures.{figure, figureRefusal, figureOf}
 use Rattle.parts.specs.declared.table.Row.{Row}
-use Rattle.parts.specs.declared.figure.Figure.{Figure}
+use Rattle.table.specs.declared.figure.Figure.{Figure}
 use Rattle.parts.specs.declared.table.Found.{Found}
 use Rattle.parts.proofs.Every.{apart, split}
 use Rattle.chip.specs.Cycle.{chip, Outcome, afterTime, acceptedOf, cycleOf}
@@ -29,17 +29,18 @@ use Rattle.driver.specs.Refusals.{startRefusal}
 use Rattle.driver.specs.Writes.{noWrite, commandWrites, kth, kthRefusal, kthWrite}
 use Rattle.driver.specs.Machine.{valueWanted, noDriver, startOf, startWriting, mostPolls, inRange, step, ended, writingOf, polls, matches, pollingOf, confirmingOf, phaseOf, stepOf}
 use Rattle.driver.proofs.Begins.{start-range}
+use Rattle.driver.proofs.Theorems.{refused-steps}
 use Rattle.job.specs.declared.bill.Bill.{Bill}
 use Rattle.job.specs.Bill.{Loaded, Reported, refusedBill, loadOf, reportOf}
 use Rattle.jobfile.specs.declared.trailer.JobFile.{JobFile}
 use Rattle.jobfile.specs.JobFile.{malformed, trailerOf, refused, asked, jobOf}
 use Rattle.billing.specs.File.{billOfJob, billOfFile}
+use Rattle.demands.specs.Calls.{onBus, refusedCycle, StepCall, toStep, StartCall, StartWritingCall, ToStart, refusedStart, toStart, refusedWrites, toWrite, kthAsked, refusedJob, toLoad, toLoadFirst}
 use Rattle.station.specs.declared.machine.DriverNumbers.{DriverNumbers}
 use Rattle.station.specs.declared.machine.StartNumbers.{StartNumbers}
 use Rattle.station.specs.Machine.{phaseAt, driverNumbers, driverOf, startNumbers, steppedOf}
 use Rattle.station.specs.Cycle.{deviceOf, noState, Cycled, cycledNumbers}
 use Rattle.station.proofs.Back.{no-phase, out-of-range, bad-mode, bad-toggle, no-device, refused-numbers, taken-numbers}
-use Rattle.demands.specs.Calls.{onBus, refusedCycle, StepCall, toStep, refusedStart, toStart, refusedWrites, toWrite, kthAsked, refusedJob, toLoad, toLoadFirst}
 use Rattle.demands.specs.Calls.{rowAsked, figureAsked, toRead, ToRead, toBill, jobAsked, refusedFile}
 use Rattle.demands.specs.Controller.{StationStepCall, numbersToStep, OnStation, onStation, meant, noDevice, stationToLoad, stationToLoadFirst, stationToRead, stationToBill}
 use Rattle.demands.proofs.Controller.{cycleAsked, station-left}
@@ -91,6 +92,21 @@ step-refuses c = record { only = λ e. by (inRange d) refl (rw (c .promise) at e
     by : (t : Bool) → inRange d ≡ t → pick t (phaseOf (rowOf (d .part)) (d .phase) d (toStep c .read)) (step 5 d Nothing 0) .answer ≡ 5 → t ≡ false
     by true t e = absurd (phases-answer (rowOf (d .part)) (d .phase) d (toStep c .read) e)
     by false t e = refl
+
+-- ---- the two starts; and a step of the state that a refused one handed back
+start-refuses : (c : StartCall) → Refuses Started (c .back .answer) (refusedStart (toStart (c .given))) (c .back) (record { answer = refusedStart (toStart (c .given)); driver = noDriver })
+unfolding startOf
+start-refuses c = rw (c .promise) (by-test (λ (t : Started). t .answer) (refusedStart (toStart (c .given))) _ _ refl refl)
+
+start-writing-refuses : (c : StartWritingCall)
+    → Refuses Step (c .back .answer) (refusedStart (toStart (c .given))) (c .back) (step (refusedStart (toStart (c .given))) noDriver Nothing 0)
+start-writing-refuses c = let g = toStart (c .given) in rw (c .promise) (starts-refuse (g .part) (g .command) (g .address) (g .word) (g .p))
+
+no-driver-steps : (g : ToStart) → (refusedStart g ≡ 0 → ⊥) → (d : Driver) → d ≡ noDriver → (e : StepCall) → toStep e .driver ≡ d → e .back ≡ step 5 d Nothing 0
+no-driver-steps g n d none e same =
+    e .promise
+    ∙ (ap (λ (d : Driver). stepOf d (toStep e .read)) (same ∙ none)
+    ∙ (refused-steps (g .part) (g .command) (g .address) (g .word) (g .p) n .1 (toStep e .read) ∙ ap (λ (d : Driver). step 5 d Nothing 0) (sym none)))
 
 -- ---- the C controller's start, step and bus cycle
 stations-start : (part command address x p : ℕ) → let t = startNumbers (startOf part command address x p) in let n = startRefusal part command address x p in
@@ -196,15 +212,17 @@ bills-refuse g = by (ltb 20480 (length (g .file))) (malformed (g .file))
 
 -- ---- together
 pub demand-1 : Demand1
-unfolding cycleOf acceptedOf startOf commandWrites loadOf reportOf
+unfolding cycleOf acceptedOf commandWrites loadOf reportOf
 demand-1 =
     record {
       bus-cycle-refuses = λ c. let g = onBus c in
           rw (c .promise .0, c .promise .1)
           (by-test (λ (o : Outcome). o .reply .answer) (refusedCycle g) _ _ (acted-answers _ (afterTime _ (chip (g .cells) (g .device)) (g .cycle .elapsed)) (g .cycle .wp) (g .cycle .action)) refl);
-      start-refuses = λ c. rw (c .promise) (by-test (λ (t : Started). t .answer) (refusedStart (toStart (c .given))) _ _ refl refl);
-      start-writing-refuses = λ c. let g = toStart (c .given) in rw (c .promise) (starts-refuse (g .part) (g .command) (g .address) (g .word) (g .p));
+      start-refuses = start-refuses;
+      start-writing-refuses = start-writing-refuses;
       step-refuses = step-refuses;
+      refused-start-steps = λ c n. no-driver-steps (toStart (c .given)) n (c .back .driver) (ap (λ (t : Started). t .driver) (start-refuses c .beside n));
+      refused-start-writing-steps = λ c n. no-driver-steps (toStart (c .given)) n (c .back .driver) (ap (λ (t : Step). t .driver) (start-writing-refuses c .beside n));
       writes-refuses = λ c. rw (c .promise) (by-test (λ (t : Writes). t .answer) (refusedWrites (toWrite c)) _ _ refl refl);
       kth-write-refuses = λ c. let g = kthAsked (c .given) in rw (c .promise) (kth-refuses (g .part) (g .command) (g .address) (g .word) (g .k));
       load-refuses = λ c. rw (c .promise .0, c .promise .1) (by-test (λ (l : Loaded). l .bill .answer) (refusedJob (toLoad c)) _ _ refl refl);

@@ -1,5 +1,5 @@
 -- Demand 2 is met. What is proved stands in specs/Demand2.antt.
-use Prim.Native.Nat.{ℕ, _+_, _-_, _*_, _/_, _^_, _≤_}
+use Prim.Native.Nat.{ℕ, _+_, _-_, _*_, _/_, _^_, _≤_, _<_}
 use mathlib.Core.Path.{_≡_, refl, sym, ap, ap₂, _∙_}
 use mathlib.Core.Bool.{Bool, true, false}
 use mathlib.Core.List.{List, [], _∷_, _++_}
@@ -23,6 +23,7 @@ use Rattle.chip.specs.Cycle.{cycle, Chip, chip, acceptedOf, cycleOf}
 use Rattle.chip.specs.Trace.{play, startedIn}
 use Rattle.chip.proofs.Started.{started-append, reads-start, one-read-starts}
 use Rattle.driver.specs.declared.machine.Driver.{Driver}
+use Rattle.driver.specs.declared.machine.Started.{Started}
 use Rattle.driver.specs.declared.machine.Step.{Step}
 use Rattle.driver.specs.declared.machine.Phase.{Phase}
 use Rattle.driver.specs.declared.machine.Phase.the-variants.{Writing, Polling, Confirming, Done, GaveUp, Differs}
@@ -30,9 +31,11 @@ use Rattle.driver.specs.declared.machine.Next.the-variants.{Nothing}
 use Rattle.driver.specs.Refusals.{commandRefusal, startRefusal}
 use Rattle.driver.specs.Writes.{write, unlock, lastWrite, writeCount, writesOf, sixPlaces, commandWrites}
 use Rattle.driver.specs.Machine.{addressOf, confirmAfter, bitSeven, bitWanted, startOf, mostPolls, countFits, inRange, step, matches, pollingOf, confirmingOf, phaseOf, stepOf}
-use Rattle.driver.specs.Talk.{writeCycles, shownAfter, Told, talk, heard}
+use Rattle.driver.specs.Talk.{Stepping, AsSaid, writeCycles, shownAfter, Told, talk, heard}
 use Rattle.driver.proofs.Asked.{asking, begun}
 use Rattle.driver.proofs.Theorems as Theorems
+use Rattle.demands.specs.Calls.{onBus, refusedCycle, toWrite, StepCall, ToStep, toStep, AsPromised, ToStart, toStart, refusedStart}
+use Rattle.demands.specs.Demand2.{IdleUnprotected, StartedDriver, startAsked, operationAsked, polls, cyclesAtMost, ChipFor, firstNamed, talked, noRead, Demand2}
 use Rattle.station.specs.declared.machine.DriverNumbers.{DriverNumbers}
 use Rattle.station.specs.declared.machine.StartNumbers.{StartNumbers}
 use Rattle.station.specs.declared.machine.StepNumbers.{StepNumbers}
@@ -43,8 +46,6 @@ use Rattle.station.proofs.Back.{driver-back, step-of-driver, next-back, taken-n
 use Rattle.station.proofs.Loop.{loop-is-talk, hearing-is-heard}
 use Rattle.demands.specs.Controller.{StationStartCall, onStation}
 use Rattle.demands.proofs.Controller.{station-left}
-use Rattle.demands.specs.Calls.{onBus, refusedCycle, toWrite, ToStart, toStart, refusedStart, StepCall, toStep}
-use Rattle.demands.specs.Demand2.{IdleUnprotected, operationAsked, polls, noRead, Demand2}
 
 -- ---- a command's writes together
 -- the first count of six places are the writes
@@ -75,45 +76,69 @@ begins-once part command address word wp cells d cs ds m e at o q one none =
     ∙ (started-append part (chip cells d) ws (replicate m (cycle e wp (Read at)) ++ ds)
     ∙ ap₂ {A = List Operation} {B = List Operation} {C = List Operation} (λ x y. x ++ y) one (reads-start part m e wp at ds none (play part (chip cells d) ws)))
 
--- a started driver's cycles start the operation asked for: it polls N times where the cell shows the wanted bit 7, else it gives up
-starts : (g : ToStart) → refusedStart g ≡ 0 → (cells : List ℕ) (d : Device) (wp : Bool) → IdleUnprotected (g .part) (g .command) (g .address) cells d wp
-    → (read n : ℕ) → writeCount (g .command) + polls g * 2 + 1 ≤ n
-    → startedIn (g .part) (chip cells d) (talk (g .part) wp n (stepOf (startOf (g .part) (g .command) (g .address) (g .word) (g .p) .driver) read) (chip cells d) .cycles)
-    ≡ operationAsked g ∷ []
-starts g accepted cells d wp i read n enough = by (eqb (bitSeven shown) (bitWanted command word)) refl
-  where
-    part : ℕ
-    part = g .part
+-- a function that steps as promised gives what the definition says
+as-said : (steps : Stepping) → AsPromised steps → AsSaid steps
+as-said steps w d v t = sym (w .handed d v t) ∙ (w .call d v t .promise ∙ ap (λ (g : ToStep). stepOf (g .driver) (g .read)) (w .gave d v t))
 
-    command : ℕ
-    command = g .command
+-- and the definition is such a function
+abbrev stepped : Driver → ℕ → StepCall
+stepped d v = record { lifetimes = tt; given = (d, (v, tt)); back = stepOf d v; ends = (d, (v, tt)); promise = refl }
 
-    address : ℕ
-    address = g .address
+-- the first step is one of the state that the definition says
+first-is : (s : StartedDriver) → let g = startAsked s in firstNamed s ≡ s .steps (startOf (g .part) (g .command) (g .address) (g .word) (g .p) .driver) (s .read)
+first-is s = ap (λ (t : Started). s .steps (t .driver) (s .read)) (s .start .promise)
 
-    word : ℕ
-    word = g .word
+-- so a started driver talks as by the definition; it polls N times where the cell shows the wanted bit 7, else it gives up
+module _ (s : StartedDriver) (h : ChipFor (startAsked s)) where
+  abbrev part : ℕ
+  part = startAsked s .part
 
-    shown : ℕ
-    shown = shownAfter (rowOf part) command address word cells
+  abbrev command : ℕ
+  command = startAsked s .command
 
-    one : startedIn part (chip cells d) (writeCycles wp (writesOf (rowOf part) command address word)) ≡ operationAsked g ∷ []
-    one =
-        Theorems.writes-start part command address word wp cells d (asking part command address word (begun part command address word (g .p) accepted .asked))
-        (i .whole) (i .rests) (i .heeded) .1
+  abbrev address : ℕ
+  address = startAsked s .address
 
-    by : (t : Bool) → eqb (bitSeven shown) (bitWanted command word) ≡ t
-        → startedIn part (chip cells d) (talk part wp n (stepOf (startOf part command address word (g .p) .driver) read) (chip cells d) .cycles) ≡ operationAsked g ∷ []
-    by true t =
-        begins-once part command address word wp cells d _ (cycle confirmAfter wp (Read (addressOf command address)) ∷ []) (polls g) (g .p) (addressOf command address) (operationAsked g)
-        (ap (λ (t : Told). t .cycles)
-        (Theorems.performs part command address word (g .p) wp cells d accepted (i .whole) (i .rests) (i .heeded) (eqb-true _ _ t) n read (omega arith)))
-        one (one-read-starts part confirmAfter wp (addressOf command address))
-    by false t =
-        begins-once part command address word wp cells d _ [] (polls g * 2) (g .p) (addressOf command address) (operationAsked g)
-        (ap (λ (t : Told). t .cycles)
-        (Theorems.gives-up part command address word (g .p) wp cells d accepted (i .whole) (i .rests) (i .heeded) (eqb-false _ _ t) n read (omega arith)))
-        one (λ h. refl)
+  abbrev word : ℕ
+  word = startAsked s .word
+
+  abbrev p : ℕ
+  p = startAsked s .p
+
+  abbrev i : IdleUnprotected part command address (h .cells) (h .device) (h .wp)
+  i = h .ready
+
+  alike : (n : ℕ) → talked s h n ≡ talk stepOf part (h .wp) n (stepOf (startOf part command address word p .driver) (s .read)) (chip (h .cells) (h .device))
+  alike n =
+      ap (λ (t : Step). talk (s .steps) part (h .wp) n t (chip (h .cells) (h .device))) (first-is s)
+      ∙ Theorems.talks-alike part command address word p (s .accepted) (s .steps) (as-said (s .steps) (s .promised)) (h .wp) n (s .read) (chip (h .cells) (h .device)) (s .word)
+
+  one : startedIn part (chip (h .cells) (h .device)) (writeCycles (h .wp) (writesOf (rowOf part) command address word)) ≡ operationAsked (startAsked s) ∷ []
+  one =
+      Theorems.writes-start part command address word (h .wp) (h .cells) (h .device) (asking part command address word (begun part command address word p (s .accepted) .asked))
+      (i .whole) (i .rests) (i .heeded) .1
+
+  starts : (n : ℕ) → cyclesAtMost (startAsked s) ≤ n → startedIn part (chip (h .cells) (h .device)) (talked s h n .cycles) ≡ operationAsked (startAsked s) ∷ []
+  starts n enough = by (eqb (bitSeven shown) (bitWanted command word)) refl
+    where
+      shown : ℕ
+      shown = shownAfter (rowOf part) command address word (h .cells)
+
+      N : ℕ
+      N = polls (startAsked s)
+
+      by : (t : Bool) → eqb (bitSeven shown) (bitWanted command word) ≡ t → startedIn part (chip (h .cells) (h .device)) (talked s h n .cycles) ≡ operationAsked (startAsked s) ∷ []
+      by true t =
+          begins-once part command address word (h .wp) (h .cells) (h .device) _ (cycle confirmAfter (h .wp) (Read (addressOf command address)) ∷ []) N p (addressOf command address)
+          (operationAsked (startAsked s))
+          (ap (λ (t : Told). t .cycles)
+          (alike n ∙ Theorems.performs part command address word p (h .wp) (h .cells) (h .device) (s .accepted) (i .whole) (i .rests) (i .heeded) (eqb-true _ _ t) n (s .read) (omega arith)))
+          one (one-read-starts part confirmAfter (h .wp) (addressOf command address))
+      by false t =
+          begins-once part command address word (h .wp) (h .cells) (h .device) _ [] (N * 2) p (addressOf command address) (operationAsked (startAsked s))
+          (ap (λ (t : Told). t .cycles)
+          (alike n ∙ Theorems.gives-up part command address word p (h .wp) (h .cells) (h .device) (s .accepted) (i .whole) (i .rests) (i .heeded) (eqb-false _ _ t) n (s .read) (omega arith)))
+          one (λ h. refl)
 
 -- ---- what a step takes of the value that it is given
 -- bit 7 is among the low eight bits
@@ -182,8 +207,8 @@ begun-numbers : (c : StationStartCall) → c .back .driver ≡ driverNumbers (dr
 begun-numbers c = ap (λ (t : StartNumbers). t .driver) (c .promise)
 
 -- they mean the driver
-means : (g : ToStart) (v : DriverNumbers) → v ≡ driverNumbers (driverStarted g) → driverOf v ≡ driverStarted g
-means g v b = ap driverOf b ∙ driver-back (driverStarted g)
+names-driver : (g : ToStart) (v : DriverNumbers) → v ≡ driverNumbers (driverStarted g) → driverOf v ≡ driverStarted g
+names-driver g v b = ap driverOf b ∙ driver-back (driverStarted g)
 
 module _ (g : ToStart) (v : DriverNumbers) (b : v ≡ driverNumbers (driverStarted g)) (wp read n : ℕ) where
   -- its first step is the driver's
@@ -191,16 +216,40 @@ module _ (g : ToStart) (v : DriverNumbers) (b : v ≡ driverNumbers (driverStart
   first-step = ap (λ (x : DriverNumbers). steppedOf x read) b ∙ step-of-driver (driverStarted g) read
 
   loops : (cells : List ℕ) (d : Device)
-      → loop (g .part) wp n (steppedOf v read) cells (deviceNumbers d) ≡ toldNumbers (talk (g .part) (high wp) n (stepOf (driverStarted g) read) (chip cells d))
+      → loop (g .part) wp n (steppedOf v read) cells (deviceNumbers d) ≡ toldNumbers (talk stepOf (g .part) (high wp) n (stepOf (driverStarted g) read) (chip cells d))
   loops cells d =
       ap (λ (s : StepNumbers). loop (g .part) wp n s cells (deviceNumbers d)) first-step
       ∙ loop-is-talk wp (g .part) n (stepOf (driverStarted g) read) (next-back (driverStarted g) read) (chip cells d)
 
-  hears : (f : ℕ → ℕ) → loopHearing wp f n (steppedOf v read) ≡ heardNumbers (heard (high wp) f n (stepOf (driverOf v) read))
+  hears : (f : ℕ → ℕ) → loopHearing wp f n (steppedOf v read) ≡ heardNumbers (heard stepOf (high wp) f n (stepOf (driverOf v) read))
   hears f =
       ap (loopHearing wp f n) first-step
       ∙ (hearing-is-heard wp f n (stepOf (driverStarted g) read) (next-back (driverStarted g) read)
-      ∙ ap (λ (d : Driver). heardNumbers (heard (high wp) f n (stepOf d read))) (sym (means g v b)))
+      ∙ ap (λ (d : Driver). heardNumbers (heard stepOf (high wp) f n (stepOf d read))) (sym (names-driver g v b)))
+
+-- a driver that steps by its definition steps as promised
+as-defined : AsPromised stepOf
+as-defined = record { call = λ d v t. stepped d v; gave = λ d v t. refl; handed = λ d v t. refl }
+
+-- the driver that a C controller has started, stepped by its definition
+abbrev from-C : (c : StationStartCall) → refusedStart (toStart (c .given)) ≡ 0 → (read : ℕ) → read < 2 ^ 16 → StartedDriver
+from-C c accepted read w =
+    let g = toStart (c .given) in
+    record {
+      start =
+          record {
+            lifetimes = tt;
+            given = c .given;
+            back = startOf (g .part) (g .command) (g .address) (g .word) (g .p);
+            ends = c .ends;
+            promise = refl;
+          };
+      accepted = accepted;
+      steps = stepOf;
+      promised = as-defined;
+      read = read;
+      word = w;
+    }
 
 -- ---- together
 pub demand-2 : Demand2
@@ -214,26 +263,43 @@ demand-2 =
       writes-start = λ c accepted cells d wp i. let g = toWrite c in
           rw (c .promise, places-are (g .part) (g .command) (g .address) (g .word) accepted)
           (Theorems.writes-start (g .part) (g .command) (g .address) (g .word) wp cells d accepted (i .whole) (i .rests) (i .heeded) .1);
-      driver-starts = λ c accepted cells d wp i read n enough. rw (c .promise) (starts (toStart (c .given)) accepted cells d wp i read n enough);
-      driver-succeeds = λ c accepted cells d wp i same read n enough. let g = toStart (c .given) in
-          rw (c .promise)
-          (Theorems.succeeds (g .part) (g .command) (g .address) (g .word) (g .p) wp cells d accepted (i .whole) (i .rests) (i .heeded) same n read enough);
-      driver-ends = λ c accepted wp f read n enough. let g = toStart (c .given) in
-          rw (c .promise) (Theorems.always-ends (g .part) (g .command) (g .address) (g .word) (g .p) accepted wp f read n enough);
+      driver-starts = starts;
+      driver-succeeds = λ s h same n enough. let g = startAsked s in let i = h .ready in
+          alike s h n ∙ Theorems.succeeds (g .part) (g .command) (g .address) (g .word) (g .p) (h .wp) (h .cells) (h .device) (s .accepted) (i .whole) (i .rests) (i .heeded) same n (s .read) enough;
+      driver-erases = λ s h e n enough. let g = startAsked s in let i = h .ready in
+          alike s h n ∙ Theorems.erases (g .part) (g .command) (g .address) (g .word) (g .p) (h .wp) (h .cells) (h .device) (s .accepted) (i .whole) (i .rests) (i .heeded) e n (s .read) enough;
+      driver-programs = λ s h z clears n enough. let g = startAsked s in let i = h .ready in
+          alike s h n ∙ Theorems.programs (g .part) (g .command) (g .address) (g .word) (g .p) (h .wp) (h .cells) (h .device) (s .accepted) (i .whole) (i .rests) (i .heeded) z clears n (s .read) enough;
+      driver-differs = λ s h z raises but n enough. let g = startAsked s in let i = h .ready in
+          alike s h n ∙ Theorems.program-differs (g .part) (g .command) (g .address) (g .word) (g .p) (h .wp) (h .cells) (h .device) (s .accepted) (i .whole) (i .rests) (i .heeded) z raises but n (s .read) enough;
+      driver-gives-up = λ s h z seven n enough. let g = startAsked s in let i = h .ready in
+          alike s h n ∙ Theorems.program-gives-up (g .part) (g .command) (g .address) (g .word) (g .p) (h .wp) (h .cells) (h .device) (s .accepted) (i .whole) (i .rests) (i .heeded) z seven n (s .read) enough;
+      driver-ends = λ s wp f words n enough. let g = startAsked s in
+          rw (first-is s)
+          (Theorems.always-ends (g .part) (g .command) (g .address) (g .word) (g .p) (s .accepted) wp (s .steps) (as-said (s .steps) (s .promised)) f words (s .read) (s .word) n enough);
+      driver-means = λ s wp f words n enough. let g = startAsked s in
+          rw (first-is s)
+          (Theorems.means (g .part) (g .command) (g .address) (g .word) (g .p) (s .accepted) wp (s .steps) (as-said (s .steps) (s .promised)) f words (s .read) (s .word) n enough);
+      definition-is-promised = as-defined;
       value-ignored = λ c e same none. let d = toStep c .driver in let u = toStep c .read in let v = toStep e .read in
           same-step c e same (in-range d u v (λ _. ignores d u v (d .phase) none));
       low-bits-count = λ c e same alike. let d = toStep c .driver in let u = toStep c .read in let v = toStep e .read in
           same-step c e same (in-range d u v (λ z. counts d u v (d .phase) (bits d u v alike z) alike));
       station-cycle-acts = λ c accepted. let g = onStation c in station-left c ∙ taken-numbers (g .part) (g .cells) (g .device) (g .cycle) accepted;
-      station-starts = λ c accepted cells d wp i read n enough. let g = toStart (c .given) in
-          ap (λ (t : Looped). startedIn (g .part) (chip cells d) (t .cycles)) (loops g (c .back .driver) (begun-numbers c) wp read n cells d)
-          ∙ starts g accepted cells d (high wp) i read n enough;
-      station-succeeds = λ c accepted cells d wp i same read n enough. let g = toStart (c .given) in
-          loops g (c .back .driver) (begun-numbers c) wp read n cells d
-          ∙ ap toldNumbers (Theorems.succeeds (g .part) (g .command) (g .address) (g .word) (g .p) (high wp) cells d accepted (i .whole) (i .rests) (i .heeded) same n read enough);
-      station-ends = λ c accepted wp f read n enough. let g = toStart (c .given) in let b = begun-numbers c in (
-        rw (means g (c .back .driver) b)
-            (Theorems.always-ends (g .part) (g .command) (g .address) (g .word) (g .p) accepted (high wp) f read n enough),
-        hears g (c .back .driver) b wp read n f,
-      );
+      station-starts = λ c accepted h wp level read n w enough. let g = toStart (c .given) in
+          ap (λ (t : Looped). startedIn (g .part) (chip (h .cells) (h .device)) (t .cycles)) (loops g (c .back .driver) (begun-numbers c) wp read n (h .cells) (h .device))
+          ∙ rw level (starts (from-C c accepted read w) h n enough);
+      station-succeeds = λ c accepted h wp level same read n w enough. let g = toStart (c .given) in let i = h .ready in
+          loops g (c .back .driver) (begun-numbers c) wp read n (h .cells) (h .device)
+          ∙ rw level (ap toldNumbers (Theorems.succeeds (g .part) (g .command) (g .address) (g .word) (g .p) (h .wp) (h .cells) (h .device) accepted (i .whole) (i .rests) (i .heeded) same n read enough));
+      station-ends = λ c accepted wp f words read n w enough. let g = toStart (c .given) in let b = begun-numbers c in
+          let m = as-said stepOf as-defined in (
+            rw (names-driver g (c .back .driver) b)
+                (Theorems.always-ends (g .part) (g .command) (g .address) (g .word) (g .p) accepted (high wp) stepOf m f words read w n enough),
+            (
+              rw (names-driver g (c .back .driver) b)
+                  (Theorems.means (g .part) (g .command) (g .address) (g .word) (g .p) accepted (high wp) stepOf m f words read w n enough),
+              hears g (c .back .driver) b wp read n f,
+            ),
+          );
     }

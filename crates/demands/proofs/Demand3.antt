@@ -1,5 +1,4 @@
 -- Demand 3 is met. What is proved stands in specs/Demand3.antt.
-use Prim.Native.Nat.{ℕ}
 use mathlib.Core.Path.{_≡_, refl, _∙_}
 use mathlib.Core.Bool.{Bool, true, false}
 use native.Mathlib.Omega.{arith}
@@ -10,6 +9,7 @@ use Rattle.job.specs.Bill.{Loaded, loadOf, refusedBill}
 use Rattle.jobfile.specs.JobFile.{malformed}
 use Rattle.billing.specs.File.{billOfFile}
 use Rattle.invoice.proofs.Billed.{invoice, partly, least, job-rivals, table-time}
+use Rattle.invoice.proofs.Alone.{sector-by-sector}
 use Rattle.demands.specs.Calls.{ToLoad, toLoad, toLoadFirst, refusedJob, ToRead, toBill, jobAsked, refusedFile}
 use Rattle.demands.specs.Controller.{stationToLoad, stationToLoadFirst, stationToBill}
 use Rattle.demands.specs.Demand3.{Demand3}
@@ -44,6 +44,8 @@ demand-3 =
           job-rivals (j .part) (j .cells) (j .first) (j .image) (j .wp) (j .p) accepted;
       load-first-plays = λ c accepted. let j = toLoadFirst c .job in
           rw (c .promise .0, c .promise .1) (partly (j .part) (j .cells) (j .first) (j .image) (j .wp) (j .p) accepted (toLoadFirst c .k));
+      sector-by-sector = λ c accepted. let j = toLoad c in
+          sector-by-sector (j .part) (j .cells) (j .wp) (j .p) (j .first) (j .image) accepted;
       bill-file-bills = λ c accepted. let j = jobAsked (toBill c) in
           let w = taken (toBill c) accepted in
           rw (c .promise ∙ w .1) (invoice (j .part) (j .cells) (j .first) (j .image) (j .wp) (j .p) (w .0));

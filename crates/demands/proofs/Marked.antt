@@ -23,7 +23,7 @@ use Rattle.chip.specs.Cycle.{Chip, chip, Outcome, reply, actionRefusal, cycleRe
 use Rattle.chip.specs.Trace.{leaves, after}
 use Rattle.driver.specs.Writes.{lastWrite}
 use Rattle.job.specs.Total.{totalOf}
-use Rattle.job.specs.Refusal.{fitAll, meets, protectionRefusal, rangeRefusal, jobRefusal}
+use Rattle.job.specs.Refusal.{fitAll, meets, protectionRefusal, sectorsRefusal, rangeRefusal, jobRefusal}
 use Rattle.driver.specs.Machine.{confirmAfter}
 use Rattle.job.specs.Bill.{jobFrom, fullOf, Loaded}
 use Rattle.invoice.proofs.Listed.{filling, looking}
@@ -124,7 +124,7 @@ on-every (k ∷ ks) c = let b = both (computes k) (every computes ks) c in rw (o
 computed : every computes cases ≡ true
 unfolding computes holdsOn ranOn cycleOn reckon reckonAll accepts acceptsAll rowOf partRefusal fitsIn sectorSize holdsb hasBlocks sectorOf blockOf protectedOf hasCommand timeOf validOperation
     coreInRange stageInRange deviceInRange cellsOf completeOn cutOn effectOf ignored writtenOf actionRefusal cycleRefusal settledOf readOf cutOf acceptedOf lastWrite
-    isInterval roundedUp fitAll meets protectionRefusal rangeRefusal jobRefusal totalOf confirmAfter fullOf filling looking deciding decidingAll
+    isInterval roundedUp fitAll meets protectionRefusal sectorsRefusal rangeRefusal jobRefusal totalOf confirmAfter fullOf filling looking deciding decidingAll
 computed = refl
 
 -- Every marked case of the list holds of the definitions that the promises of bus_cycle and load cite.

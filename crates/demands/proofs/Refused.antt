@@ -11,7 +11,7 @@ use Rattle.chip.specs.Device.{validOperation, coreInRange, stageInRange, device
 use Rattle.chip.specs.Cycle.{actionRefusal, cycleRefusal}
 use Rattle.driver.specs.Refusals.{dataRefusal, targetRefusal, commandRefusal, startRefusal}
 use Rattle.driver.specs.Writes.{writeCount}
-use Rattle.job.specs.Refusal.{fitAll, meets, protectionRefusal, rangeRefusal, jobRefusal}
+use Rattle.job.specs.Refusal.{fitAll, meets, protectionRefusal, sectorsRefusal, rangeRefusal, jobRefusal}
 use Rattle.jobfile.specs.Bytes.{number, field}
 use Rattle.jobfile.specs.JobFile.{wrong, malformed, jobOf, valuesOf}
 use Rattle.demands.specs.Refused.{answeredSo, figures, writes, starts, cycles, jobs, fileBytes, fileAsks, fileValues}
@@ -22,7 +22,7 @@ unfolding rowOf partRefusal fitsIn hasBlocks hasCommand timeOf isInterval validO
 calls-refused = refl
 
 pub jobs-refused : every answeredSo jobs ≡ true
-unfolding rowOf partRefusal fitsIn sectorSize holdsb hasBlocks blockOf protectedOf isInterval fitAll meets protectionRefusal rangeRefusal jobRefusal
+unfolding rowOf partRefusal fitsIn sectorSize holdsb hasBlocks blockOf protectedOf isInterval fitAll meets protectionRefusal sectorsRefusal rangeRefusal jobRefusal
 jobs-refused = refl
 
 pub file-read : jobOf fileBytes ≡ fileAsks

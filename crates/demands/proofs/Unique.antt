@@ -1,5 +1,6 @@
 -- Every promise determines its outcome. What is proved stands in specs/Unique.antt; each is proved in the crate that exports the function.
 use Rattle.parts.proofs.Determined as parts
+use Rattle.table.proofs.Determined as table
 use Rattle.commands.proofs.Determined as commands
 use Rattle.chip.proofs.Determined as chip
 use Rattle.driver.proofs.Determined as driver
@@ -15,8 +16,8 @@ unique =
       value = parts.value-unique;
       blank = parts.blank-unique;
       fits = parts.fits-unique;
-      part-row = parts.part-row-unique;
-      part-figure = parts.part-figure-unique;
+      part-row = table.part-row-unique;
+      part-figure = table.part-figure-unique;
       span-holds = parts.holds-unique;
       sector-size = parts.sector-size-unique;
       sector-of = parts.sector-of-unique;
@@ -37,6 +38,8 @@ unique =
       kth-write = driver.kth-write-unique;
       load = job.load-unique;
       load-first = job.load-first-unique;
+      begin-load = job.begin-load-unique;
+      turn = job.turn-unique;
       read-job = jobfile.read-job-unique;
       read-image = jobfile.read-image-unique;
       bill-file = billing.bill-file-unique;

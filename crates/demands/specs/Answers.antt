@@ -5,7 +5,7 @@ use mathlib.Core.Path.{_≡_}
 use mathlib.Core.Bool.{true, false}
 use lib.ListN.{length, getD}
 use Rattle.parts.specs.Table.{rowOf, partRefusal}
-use Rattle.parts.specs.Figures.{figure, columns}
+use Rattle.table.specs.Figures.{figure, columns}
 use Rattle.driver.specs.Writes.{noWrite, writeCount, writesOf, writes, kth}
 use Rattle.driver.specs.Machine.{begun, inRange, writing}
 use Rattle.jobfile.specs.JobFile.{malformed, trailerOf, asked, valuesOf}

@@ -2,6 +2,7 @@
 -- hypothesis of every theorem is such a call: the function's promise, as it is made from the source, of its arguments and
 -- of what it handed back.
 use Prim.Native.Nat.{ℕ}
+use mathlib.Core.Path.{_≡_}
 use mathlib.Core.Bool.{Bool}
 use mathlib.Core.List.{List}
 use lib.ListN.{length}
@@ -10,12 +11,12 @@ use contract.Lifetimes.{Lfts}
 use borrow.Fn.Kinds.{PK, RK, Out, Dens, endedOf, resT}
 use denote.Triple.Clauses.{AtExit}
 use Rattle.parts.specs.Names.{BAD-FILE}
-use Rattle.parts.specs.Pick.{pick, _when_, _else_}
-use Rattle.parts.specs.Figures.{figureRefusal}
-use Rattle.parts.proofs.part_row.Kinds as row-kinds
-use Rattle.parts.proofs.part_row.Reads as row-reads
-use Rattle.parts.proofs.part_figure.Kinds as figure-kinds
-use Rattle.parts.proofs.part_figure.Reads as figure-reads
+use Rattle.parts.specs.Pick.{_when_, _else_}
+use Rattle.table.specs.Figures.{figureRefusal}
+use Rattle.table.proofs.part_row.Kinds as row-kinds
+use Rattle.table.proofs.part_row.Reads as row-reads
+use Rattle.table.proofs.part_figure.Kinds as figure-kinds
+use Rattle.table.proofs.part_figure.Reads as figure-reads
 use Rattle.chip.specs.declared.device.Device.{Device}
 use Rattle.chip.specs.declared.cycle.Cycle.{Cycle}
 use Rattle.chip.specs.Cycle.{Outcome, cycleRefusal}
@@ -24,6 +25,7 @@ use Rattle.chip.proofs.bus_cycle.Reads as bus-reads
 use Rattle.driver.specs.declared.machine.Driver.{Driver}
 use Rattle.driver.specs.Refusals.{commandRefusal, startRefusal}
 use Rattle.driver.specs.Writes.{kthRefusal}
+use Rattle.driver.specs.Talk.{Stepping, InTypes}
 use Rattle.driver.proofs.start.Kinds as start-kinds
 use Rattle.driver.proofs.start.Reads as start-reads
 use Rattle.driver.proofs.start_writing.Kinds as start-writing-kinds
@@ -121,6 +123,13 @@ pub record ToStep : Type 0 where
 
 abbrev pub toStep : StepCall → ToStep
 toStep c = record { driver = c .given .0; read = c .given .1 .0 }
+
+-- a function that steps as promised: for each state and value that their types hold there is a call that was given them and
+-- handed back what the function gives
+pub record AsPromised (steps : Stepping) : Type 0 where
+  pub call : (d : Driver) (v : ℕ) → InTypes d v → StepCall
+  pub gave : (d : Driver) (v : ℕ) (t : InTypes d v) → toStep (call d v t) ≡ record { driver = d; read = v }
+  pub handed : (d : Driver) (v : ℕ) (t : InTypes d v) → call d v t .back ≡ steps d v
 
 -- ---- command_writes(part, command, address, data)
 abbrev pub WritesCall : Type 0

@@ -6,13 +6,13 @@ use Prim.Native.Nat.{ℕ}
 use mathlib.Core.Path.{_≡_}
 use mathlib.Core.Bool.{true, false}
 use mathlib.Core.List.{[]}
+use Rattle.parts.specs.Names.{BAD-STATE, BAD-FILE, WRONG-CELLS}
+use Rattle.parts.specs.Pick.{_when_, _else_, _unless_, _orElse_}
+use Rattle.parts.specs.Table.{noLine, rowFrom, partRefusal, rowOf}
+use Rattle.table.specs.Figures.{figure}
+use Rattle.table.specs.declared.figure.Figure.{Figure}
 use lib.Dec.{eqb}
 use lib.ListN.{length}
-use Rattle.parts.specs.Names.{WRONG-CELLS, BAD-STATE, BAD-FILE}
-use Rattle.parts.specs.Pick.{_when_, _unless_, _else_, _orElse_}
-use Rattle.parts.specs.Table.{noLine, rowFrom, rowOf, partRefusal}
-use Rattle.parts.specs.Figures.{figure}
-use Rattle.parts.specs.declared.figure.Figure.{Figure}
 use Rattle.parts.specs.declared.table.Found.{Found}
 use Rattle.chip.specs.Cycle.{Outcome, reply}
 use Rattle.driver.specs.declared.machine.Started.{Started}
@@ -64,6 +64,11 @@ pub record Demand1 : Type 0 where
       Refuses Step (c .back .answer) n (c .back) (step n noDriver Nothing 0)
   -- A step refuses with 5 only.
   pub step-refuses : (c : StepCall) → RefusesState (toStep c .driver) (c .back)
+  -- The state that a refused start hands back is answered with 5: no cycle is named, and the state handed back.
+  pub refused-start-steps : (c : StartCall) → (refusedStart (toStart (c .given)) ≡ 0 → ⊥)
+      → (e : StepCall) → toStep e .driver ≡ c .back .driver → e .back ≡ step BAD-STATE (c .back .driver) Nothing 0
+  pub refused-start-writing-steps : (c : StartWritingCall) → (refusedStart (toStart (c .given)) ≡ 0 → ⊥)
+      → (e : StepCall) → toStep e .driver ≡ c .back .driver → e .back ≡ step BAD-STATE (c .back .driver) Nothing 0
   -- A refused command's writes: its number, no write, and six places of zeros.
   pub writes-refuses : (c : WritesCall) → let n = refusedWrites (toWrite c) in
       Refuses Writes (c .back .answer) n (c .back) (writes n 0 [])

@@ -1,17 +1,18 @@
 -- Demand 2. Model and driver agree with the data sheets as document 01 states them: each cycle gives the stated value,
 -- state and cells; each command that the driver issues to an idle, unprotected chip starts that operation and no other. And
--- the driver answers after a stated number of cycles, whatever the chip replies; and takes of the value that it is given
--- what document 01 says.
-use Prim.Native.Nat.{ℕ, _+_, _*_, _≤_}
+-- the driver answers after a stated number of cycles, whatever the chip replies, and by a number that says what was replied;
+-- and takes of the value that it is given what document 01 says.
+use Prim.Native.Nat.{ℕ, _+_, _*_, _^_, _≤_, _<_}
 use mathlib.Core.Path.{_≡_}
 use mathlib.Core.Bool.{Bool, true, false}
 use mathlib.Core.List.{List, [], _∷_}
 use lib.Dec.{eqb}
-use lib.ListN.{length, take}
+use lib.ListN.{length, getD, take}
+use lib.Bits.{bitAnd}
+use Rattle.parts.specs.Names.{PROGRAM}
 use Rattle.parts.specs.Width.{valueOf}
 use Rattle.parts.specs.Table.{rowOf}
 use Rattle.parts.specs.Time.{pollsOf}
-use Rattle.parts.specs.declared.table.Row.{Row}
 use Rattle.chip.specs.declared.device.Device.{Device}
 use Rattle.chip.specs.declared.device.Operation.{Operation}
 use Rattle.chip.specs.Device.{busyWith, device, freshDevice, idle}
@@ -20,11 +21,12 @@ use Rattle.chip.specs.Cycle.{chip, afterTime, actedOf}
 use Rattle.chip.specs.Trace.{play, startedIn}
 use Rattle.driver.specs.declared.machine.Phase.{Phase}
 use Rattle.driver.specs.declared.machine.Phase.the-variants.{Writing, Polling, Confirming, Done, GaveUp, Differs}
+use Rattle.driver.specs.declared.machine.Step.{Step}
 use Rattle.driver.specs.Writes.{writeCount}
 use Rattle.driver.specs.Machine.{valueWanted, begun, moved, ended, stepOf}
-use Rattle.driver.specs.Talk.{writeCycles, operationCycles, operationOf, completed, shownAfter, Told, told, talk, heard}
-use Rattle.driver.proofs.Theorems.{Ended}
-use Rattle.demands.specs.Calls.{BusCall, onBus, busLeft, refusedCycle, WritesCall, toWrite, refusedWrites, StartCall, ToStart, toStart, refusedStart, StepCall, toStep}
+use Rattle.driver.specs.Talk.{Stepping, writeCycles, operationCycles, operationOf, completed, shownAfter, Told, told, talk, heard}
+use Rattle.driver.specs.Endings.{MustRaise, MustRaiseSeven, Ended, Meaning}
+use Rattle.demands.specs.Calls.{BusCall, onBus, busLeft, refusedCycle, WritesCall, toWrite, refusedWrites, StartCall, ToStart, toStart, refusedStart, StepCall, toStep, AsPromised}
 use Rattle.station.specs.Machine.{driverOf, steppedOf}
 use Rattle.station.specs.Cycle.{high, deviceNumbers}
 use Rattle.station.specs.Loop.{toldNumbers, loop, heardNumbers, loopHearing}
@@ -36,7 +38,23 @@ pub record IdleUnprotected (part command address : ℕ) (cells : List ℕ) (d : 
   pub rests : idle d ≡ true
   pub heeded : ignored (rowOf part) wp command address ≡ false
 
--- ---- of a driver's start
+-- ---- a driver, by any function that the promise of its step allows
+-- its start was not refused, and it is stepped on by a function as promised, whatever word was read before
+pub record StartedDriver : Type 0 where
+  pub start : StartCall
+  pub accepted : refusedStart (toStart (start .given)) ≡ 0
+  pub steps : Stepping
+  pub promised : AsPromised steps
+  pub read : ℕ
+  pub word : read < 2 ^ 16
+
+abbrev pub startAsked : StartedDriver → ToStart
+startAsked s = toStart (s .start .given)
+
+-- its first step, which names the first cycle
+abbrev pub firstNamed : StartedDriver → Step
+firstNamed s = s .steps (s .start .back .driver) (s .read)
+
 -- the operation asked for
 abbrev pub operationAsked : ToStart → Operation
 operationAsked g = operationOf (rowOf (g .part)) (g .command) (g .address) (g .word)
@@ -45,14 +63,37 @@ operationAsked g = operationOf (rowOf (g .part)) (g .command) (g .address) (g .w
 abbrev pub polls : ToStart → ℕ
 polls g = pollsOf (rowOf (g .part)) (g .command) (g .p)
 
--- where it succeeds: the writes, N polls and one confirming read are sent; the operation has completed on the cells, the
--- device is fresh; the end is 0 with N polls
-abbrev pub success : ToStart → Bool → List ℕ → Told
-success g wp cells =
+-- the cycles that it sends at most: its writes, 6 or for a program 4, 2N polls and one confirming read
+abbrev pub cyclesAtMost : ToStart → ℕ
+cyclesAtMost g = writeCount (g .command) + polls g * 2 + 1
+
+-- and where it polls N times
+abbrev pub cyclesAfterN : ToStart → ℕ
+cyclesAfterN g = writeCount (g .command) + polls g + 1
+
+-- an idle, unprotected chip of its part
+pub record ChipFor (g : ToStart) : Type 0 where
+  pub cells : List ℕ
+  pub device : Device
+  pub wp : Bool
+  pub ready : IdleUnprotected (g .part) (g .command) (g .address) cells device wp
+
+-- the value that it finds at its address
+abbrev pub oldValue : (g : ToStart) → ChipFor g → ℕ
+oldValue g h = valueOf (rowOf (g .part) .width) (getD (h .cells) (g .address) 0)
+
+-- each cycle that it names is sent to that chip and the reply given to its next step: at most n cycles
+abbrev pub talked : (s : StartedDriver) → ChipFor (startAsked s) → ℕ → Told
+talked s h n = talk (s .steps) (startAsked s .part) (h .wp) n (firstNamed s) (chip (h .cells) (h .device))
+
+-- an end after so many polls, Done 0, GaveUp 11, Differs 12: the writes, these polls and, unless it gave up, one confirming
+-- read are sent; the operation has completed on the cells, the device is fresh; the polls are in the last step
+abbrev pub endedWith : (g : ToStart) → ChipFor g → ℕ → Phase → Told
+endedWith g h m f =
     told
-    (operationCycles (rowOf (g .part)) wp (g .command) (g .address) (g .word) (g .p) (polls g) Done)
-    (chip (completed (rowOf (g .part)) (g .command) (g .address) (g .word) cells) freshDevice)
-    (ended (moved (begun (g .part) (g .command) (g .address) (g .word) (g .p)) Polling (polls g)) Done)
+    (operationCycles (rowOf (g .part)) (h .wp) (g .command) (g .address) (g .word) (g .p) m f)
+    (chip (completed (rowOf (g .part)) (g .command) (g .address) (g .word) (h .cells)) freshDevice)
+    (ended (moved (begun (g .part) (g .command) (g .address) (g .word) (g .p)) Polling m) f)
 
 -- the last cycle that a driver named was no read, or it has ended
 abbrev pub noRead : Phase → ℕ → Bool
@@ -80,26 +121,41 @@ pub record Demand2 : Type 0 where
       → (cells : List ℕ) (d : Device) (wp : Bool) → IdleUnprotected (g .part) (g .command) (g .address) cells d wp
       → startedIn (g .part) (chip cells d) (writeCycles wp (take (c .back .count) (c .back .writes)))
       ≡ operationOf (rowOf (g .part)) (g .command) (g .address) (g .word) ∷ []
-  -- The cycles that a started driver names, each sent to the chip and its reply given to the next step (`talk`), start the
-  -- operation asked for and no other, whatever the cells hold.
-  pub driver-starts : (c : StartCall) → let g = toStart (c .given) in refusedStart g ≡ 0
-      → (cells : List ℕ) (d : Device) (wp : Bool) → IdleUnprotected (g .part) (g .command) (g .address) cells d wp
-      → (read n : ℕ) → writeCount (g .command) + polls g * 2 + 1 ≤ n
-      → startedIn (g .part) (chip cells d) (talk (g .part) wp n (stepOf (c .back .driver) read) (chip cells d) .cycles)
-      ≡ operationAsked g ∷ []
-  -- There, where the cell shows the wanted value once the operation has completed (after every erase, and after a program
-  -- that has no bit to raise), it succeeds.
-  pub driver-succeeds : (c : StartCall) → let g = toStart (c .given) in refusedStart g ≡ 0
-      → (cells : List ℕ) (d : Device) (wp : Bool) → IdleUnprotected (g .part) (g .command) (g .address) cells d wp
-      → shownAfter (rowOf (g .part)) (g .command) (g .address) (g .word) cells
+  -- The cycles that a started driver names start the operation asked for and no other, whatever the cells hold.
+  pub driver-starts : (s : StartedDriver) → let g = startAsked s in (h : ChipFor g)
+      → (n : ℕ) → cyclesAtMost g ≤ n
+      → startedIn (g .part) (chip (h .cells) (h .device)) (talked s h n .cycles) ≡ operationAsked g ∷ []
+  -- There, where the cell shows the wanted value once the operation has completed, it ends with 0 after N polls:
+  pub driver-succeeds : (s : StartedDriver) → let g = startAsked s in (h : ChipFor g)
+      → shownAfter (rowOf (g .part)) (g .command) (g .address) (g .word) (h .cells)
       ≡ valueWanted (rowOf (g .part)) (g .command) (g .word)
-      → (read n : ℕ) → writeCount (g .command) + polls g + 1 ≤ n
-      → talk (g .part) wp n (stepOf (c .back .driver) read) (chip cells d) ≡ success g wp cells
-  -- Whatever is replied (f), a dead chip's constant among it, a started driver has ended after 6 + 2N + 1 cycles, 4 + 2N +
-  -- 1 for a program: `Ended` says how.
-  pub driver-ends : (c : StartCall) → let g = toStart (c .given) in refusedStart g ≡ 0
-      → (wp : Bool) (f : ℕ → ℕ) (read n : ℕ) → writeCount (g .command) + polls g * 2 + 1 ≤ n
-      → Ended (g .part) (g .command) (g .address) (g .word) (g .p) wp (heard wp f n (stepOf (c .back .driver) read))
+      → (n : ℕ) → cyclesAfterN g ≤ n → talked s h n ≡ endedWith g h (polls g) Done
+  -- after every erase,
+  pub driver-erases : (s : StartedDriver) → let g = startAsked s in (h : ChipFor g) → (g .command ≡ PROGRAM → ⊥)
+      → (n : ℕ) → cyclesAfterN g ≤ n → talked s h n ≡ endedWith g h (polls g) Done
+  -- and after a program that has no bit to raise.
+  pub driver-programs : (s : StartedDriver) → let g = startAsked s in (h : ChipFor g) → g .command ≡ PROGRAM
+      → bitAnd (oldValue g h) (g .word) ≡ g .word
+      → (n : ℕ) → cyclesAfterN g ≤ n → talked s h n ≡ endedWith g h (polls g) Done
+  -- A program that would have to raise bits, but not bit 7, ends with 12 after N polls,
+  pub driver-differs : (s : StartedDriver) → let g = startAsked s in (h : ChipFor g) → g .command ≡ PROGRAM
+      → MustRaise (oldValue g h) (g .word) → (MustRaiseSeven (oldValue g h) (g .word) → ⊥)
+      → (n : ℕ) → cyclesAfterN g ≤ n → talked s h n ≡ endedWith g h (polls g) Differs
+  -- and one that would have to raise bit 7 with 11 after 2N polls.
+  pub driver-gives-up : (s : StartedDriver) → let g = startAsked s in (h : ChipFor g) → g .command ≡ PROGRAM
+      → MustRaiseSeven (oldValue g h) (g .word)
+      → (n : ℕ) → writeCount (g .command) + polls g * 2 ≤ n → talked s h n ≡ endedWith g h (polls g * 2) GaveUp
+  -- Whatever words are replied (f), a dead chip's constant among them, a started driver has ended after 6 + 2N + 1 cycles, 4
+  -- + 2N + 1 for a program: `Ended` says how,
+  pub driver-ends : (s : StartedDriver) → let g = startAsked s in (wp : Bool) (f : ℕ → ℕ) → ((i : ℕ) → f i < 2 ^ 16)
+      → (n : ℕ) → cyclesAtMost g ≤ n
+      → Ended (s .steps) (g .part) (g .command) (g .address) (g .word) (g .p) wp (heard (s .steps) wp f n (firstNamed s))
+  -- and `Meaning` what 0, 11 and 12 say of the replies, each given exactly then.
+  pub driver-means : (s : StartedDriver) → let g = startAsked s in (wp : Bool) (f : ℕ → ℕ) → ((i : ℕ) → f i < 2 ^ 16)
+      → (n : ℕ) → cyclesAtMost g ≤ n
+      → Meaning (rowOf (g .part)) (g .command) (g .word) (g .p) f (heard (s .steps) wp f n (firstNamed s) .last)
+  -- There is a function that steps as promised: the definition.
+  pub definition-is-promised : AsPromised stepOf
   -- Given any two values where the last cycle named was no read, or after the end, two steps of one state are the same.
   pub value-ignored : (c e : StepCall) → let g = toStep c in let h = toStep e in
       g .driver ≡ h .driver → noRead (g .driver .phase) (g .driver .count) ≡ true → c .back ≡ e .back
@@ -115,20 +171,22 @@ pub record Demand2 : Type 0 where
   -- The cycles of a C controller that steps from its start on, sends each cycle that is named to the chip and gives what it
   -- was shown to the next step (`loop`), start the operation asked for and no other; and it succeeds, as a driver does.
   pub station-starts : (c : StationStartCall) → let g = toStart (c .given) in refusedStart g ≡ 0
-      → (cells : List ℕ) (d : Device) (wp : ℕ) → IdleUnprotected (g .part) (g .command) (g .address) cells d (high wp)
-      → (read n : ℕ) → writeCount (g .command) + polls g * 2 + 1 ≤ n
-      → startedIn (g .part) (chip cells d) (loop (g .part) wp n (steppedOf (c .back .driver) read) cells (deviceNumbers d) .cycles)
+      → (h : ChipFor g) (wp : ℕ) → high wp ≡ h .wp → (read n : ℕ) → read < 2 ^ 16 → cyclesAtMost g ≤ n
+      → startedIn (g .part) (chip (h .cells) (h .device))
+      (loop (g .part) wp n (steppedOf (c .back .driver) read) (h .cells) (deviceNumbers (h .device)) .cycles)
       ≡ operationAsked g ∷ []
   pub station-succeeds : (c : StationStartCall) → let g = toStart (c .given) in refusedStart g ≡ 0
-      → (cells : List ℕ) (d : Device) (wp : ℕ) → IdleUnprotected (g .part) (g .command) (g .address) cells d (high wp)
-      → shownAfter (rowOf (g .part)) (g .command) (g .address) (g .word) cells
+      → (h : ChipFor g) (wp : ℕ) → high wp ≡ h .wp
+      → shownAfter (rowOf (g .part)) (g .command) (g .address) (g .word) (h .cells)
       ≡ valueWanted (rowOf (g .part)) (g .command) (g .word)
-      → (read n : ℕ) → writeCount (g .command) + polls g + 1 ≤ n
-      → loop (g .part) wp n (steppedOf (c .back .driver) read) cells (deviceNumbers d) ≡ toldNumbers (success g (high wp) cells)
+      → (read n : ℕ) → read < 2 ^ 16 → cyclesAfterN g ≤ n
+      → loop (g .part) wp n (steppedOf (c .back .driver) read) (h .cells) (deviceNumbers (h .device))
+      ≡ toldNumbers (endedWith g h (polls g) Done)
   -- Whatever is replied, it has ended after as many cycles as a driver: what it sent, and its last step, are the numbers of
-  -- one that `Ended` speaks of.
+  -- one that `Ended` and `Meaning` speak of.
   pub station-ends : (c : StationStartCall) → let g = toStart (c .given) in refusedStart g ≡ 0
-      → (wp : ℕ) (f : ℕ → ℕ) (read n : ℕ) → writeCount (g .command) + polls g * 2 + 1 ≤ n
-      → let h = heard (high wp) f n (stepOf (driverOf (c .back .driver)) read) in
-      Ended (g .part) (g .command) (g .address) (g .word) (g .p) (high wp) h
-      × (loopHearing wp f n (steppedOf (c .back .driver) read) ≡ heardNumbers h)
+      → (wp : ℕ) (f : ℕ → ℕ) → ((i : ℕ) → f i < 2 ^ 16) → (read n : ℕ) → read < 2 ^ 16 → cyclesAtMost g ≤ n
+      → let t = heard stepOf (high wp) f n (stepOf (driverOf (c .back .driver)) read) in
+      Ended stepOf (g .part) (g .command) (g .address) (g .word) (g .p) (high wp) t
+      × (Meaning (rowOf (g .part)) (g .command) (g .word) (g .p) f (t .last)
+      × (loopHearing wp f n (steppedOf (c .back .driver) read) ≡ heardNumbers t))

@@ -1,10 +1,12 @@
 -- Demand 3, the invoice. For every accepted job on an idle chip with no power cut: the range ends holding the image, no
 -- other cell has changed; the bill's erases, programs, polls, scans, confirming reads and time are those of the cycles sent
 -- and follow the formulas; and no list of bus cycles does it in less.
-use Prim.Native.Nat.{ℕ, _+_, _*_, _≤_}
+use Prim.Native.Nat.{_+_, _*_, _/_, _≤_}
 use mathlib.Core.Path.{_≡_}
 use mathlib.Core.List.{List}
 use Rattle.parts.specs.Names.{PROGRAM, SECTOR}
+use lib.ListN.{length}
+use Rattle.parts.specs.Width.{sectorSize}
 use Rattle.parts.specs.Table.{rowOf}
 use Rattle.parts.specs.Time.{timeOf}
 use Rattle.chip.specs.declared.device.Device.{Device}
@@ -15,7 +17,7 @@ use Rattle.chip.specs.Trace.{startedIn}
 use Rattle.job.specs.declared.bill.Bill.{Bill}
 use Rattle.job.specs.Bill.{Loaded, loadOf}
 use Rattle.invoice.specs.Started.{tableTime}
-use Rattle.invoice.specs.Invoice.{sentCycles, Invoice, Partly, Rival}
+use Rattle.invoice.specs.Invoice.{sentCycles, sectorsAlone, Invoice, Partly, Rival}
 use Rattle.demands.specs.Calls.{LoadCall, toLoad, loadLeft, LoadFirstCall, toLoadFirst, loadFirstLeft, refusedJob, BillFileCall, toBill, jobAsked, refusedFile}
 use Rattle.demands.specs.Controller.{StationLoadCall, StationLoadFirstCall, stationToLoad, stationToLoadFirst, stationLoadLeft, stationLoadFirstLeft, StationBillCall, stationToBill}
 
@@ -40,10 +42,16 @@ pub record Demand3 : Type 0 where
   pub job-is-a-rival : (c : LoadCall) → let j = toLoad c in refusedJob j ≡ 0
       → Rival (j .part) (j .cells) (j .first) (j .image) freshDevice
       (sentCycles (j .part) (j .cells) (j .first) (j .image) (j .wp) (j .p))
-  -- The second call leaves the cells as the first k of the job's bus cycles leave them, all if fewer; and its polls, reads
-  -- and time are those of these cycles.
+  -- The second call leaves the cells as the first k of the job's bus cycles leave them, all if fewer; its last cycle is the
+  -- last of these, zeros for none, and its reply what that one shows; its erases and programs are the operations that these
+  -- cycles start, and its polls, scans, confirming reads and time are theirs. The lines of `Partly` say each of these.
   pub load-first-plays : (c : LoadFirstCall) → let j = toLoadFirst c .job in refusedJob j ≡ 0
       → Partly (j .part) (j .cells) (j .first) (j .image) (j .wp) (j .p) (toLoadFirst c .k) (loadFirstLeft c)
+  -- What a job does in a sector is what a job of that sector alone does: its bus cycles are those of its sectors, each
+  -- loaded alone, one after the other.
+  pub sector-by-sector : (c : LoadCall) → let j = toLoad c in refusedJob j ≡ 0
+      → sentCycles (j .part) (j .cells) (j .first) (j .image) (j .wp) (j .p)
+      ≡ sectorsAlone (j .part) (j .cells) (j .wp) (j .p) (length (j .image) / sectorSize (rowOf (j .part) .width)) (j .first) (j .image)
   -- A job file's bill is that of the job that it asks for, on a blank bench part.
   pub bill-file-bills : (c : BillFileCall) → let j = jobAsked (toBill c) in refusedFile (toBill c) ≡ 0
       → Invoice (j .part) (j .cells) (j .first) (j .image) (j .wp) (j .p) (withBill (c .back) (loadOf (j .part) (j .cells) (j .first) (j .image) (j .wp) (j .p)))

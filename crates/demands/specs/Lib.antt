@@ -7,4 +7,5 @@ pub mod Demand3
 pub mod Marked
 pub mod Beside
 pub mod Refused
+pub mod Socket
 pub mod Unique

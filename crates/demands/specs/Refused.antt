@@ -5,7 +5,7 @@ use mathlib.Core.Bool.{Bool, true, false}
 use mathlib.Core.List.{List, [], _∷_}
 use lib.Dec.{eqb}
 use lib.ListN.{replicate}
-use Rattle.parts.specs.Figures.{figureRefusal}
+use Rattle.table.specs.Figures.{figureRefusal}
 use Rattle.commands.specs.declared.effect.Mode.{Mode}
 use Rattle.commands.specs.declared.effect.Mode.the-variants.{ReadMode, Identification}
 use Rattle.chip.specs.declared.device.Device.{Device}

@@ -13,10 +13,10 @@ use Rattle.parts.proofs.blank.Kinds as blank-kinds
 use Rattle.parts.proofs.blank.Reads as blank-reads
 use Rattle.parts.proofs.fits.Kinds as fits-kinds
 use Rattle.parts.proofs.fits.Reads as fits-reads
-use Rattle.parts.proofs.part_row.Kinds as part-row-kinds
-use Rattle.parts.proofs.part_row.Reads as part-row-reads
-use Rattle.parts.proofs.part_figure.Kinds as part-figure-kinds
-use Rattle.parts.proofs.part_figure.Reads as part-figure-reads
+use Rattle.table.proofs.part_row.Kinds as part-row-kinds
+use Rattle.table.proofs.part_row.Reads as part-row-reads
+use Rattle.table.proofs.part_figure.Kinds as part-figure-kinds
+use Rattle.table.proofs.part_figure.Reads as part-figure-reads
 use Rattle.parts.proofs.span.Span.holds.Kinds as span-holds-kinds
 use Rattle.parts.proofs.span.Span.holds.Reads as span-holds-reads
 use Rattle.parts.proofs.table.Row.sector_size.Kinds as sector-size-kinds
@@ -57,6 +57,10 @@ use Rattle.job.proofs.load.Kinds as load-kinds
 use Rattle.job.proofs.load.Reads as load-reads
 use Rattle.job.proofs.load_first.Kinds as load-first-kinds
 use Rattle.job.proofs.load_first.Reads as load-first-reads
+use Rattle.job.proofs.begin_load.Kinds as begin-load-kinds
+use Rattle.job.proofs.begin_load.Reads as begin-load-reads
+use Rattle.job.proofs.loading.Loading.turn.Kinds as turn-kinds
+use Rattle.job.proofs.loading.Loading.turn.Reads as turn-reads
 use Rattle.jobfile.proofs.read_job.Kinds as read-job-kinds
 use Rattle.jobfile.proofs.read_job.Reads as read-job-reads
 use Rattle.jobfile.proofs.read_image.Kinds as read-image-kinds
@@ -142,6 +146,8 @@ pub record Unique : Type 0 where
   -- the job
   pub load : OneOutcome 2 load-kinds.ps load-kinds.r load-reads.Post (λ κs s. s .1 .0 .now)
   pub load-first : OneOutcome 2 load-first-kinds.ps load-first-kinds.r load-first-reads.Post (λ κs s. s .1 .0 .now)
+  pub begin-load : OneResult 1 begin-load-kinds.ps begin-load-kinds.r begin-load-reads.Post
+  pub turn : OneOutcome 2 turn-kinds.ps turn-kinds.r turn-reads.Post (λ κs s. s .1 .1 .0 .now)
   -- the job file
   pub read-job : OneResult 1 read-job-kinds.ps read-job-kinds.r read-job-reads.Post
   pub read-image : OneOutcome 2 read-image-kinds.ps read-image-kinds.r read-image-reads.Post (λ κs s. s .1 .1 .0 .now)

@@ -26,7 +26,7 @@ use Rattle.commands.specs.Commands.{effectOf}
 use Rattle.chip.specs.Sequence.{ignored, newOperation}
 use Rattle.chip.specs.Cycle.{cycle, chip}
 use Rattle.chip.proofs.Cases.{write-leaves, write-starts}
-use Rattle.chip.proofs.Started.{Moves, Leads, stays, then}
+use Rattle.chip.proofs.Started.{Moves, Leads, ends, then}
 use Rattle.commands.specs.declared.write.Write.{Write}
 use Rattle.driver.specs.Writes.{lastWrite, writesOf}
 use Rattle.driver.specs.Talk.{writeCycle, writeCycles, operationOf}
@@ -166,7 +166,7 @@ module _ (part : ℕ) (known : partRefusal part ≡ 0) (cells : List ℕ) (whole
       → Moves part (chip cells (device k s)) (cycle 0 wp (Writes (rowOf part .u2) x)) (chip cells (device k s′)) []
   at-u2 s x s′ h b e = on s h (rowOf part .u2) x (u2-there part known) (byte-fits part known x b) s′ e
 
-  -- a command's writes leave the cells, and start its operation and no other
+  -- a command's writes leave the cells, and the last one starts its operation, no other write any
   pub command-leads : (command a x : ℕ) → Target (rowOf part) command a x → ignored (rowOf part) wp command a ≡ false
       → Leads part (chip cells (device k 0)) (writeCycles wp (writesOf (rowOf part) command a x))
       (chip cells (device (busyWith k (operationOf (rowOf part) command a x)) 0)) (operationOf (rowOf part) command a x ∷ [])
@@ -176,13 +176,13 @@ module _ (part : ℕ) (known : partRefusal part ≡ 0) (cells : List ℕ) (whole
       (λ z. then (at-u1 0 0xaa 1 zero-le (omega arith) (first-goes part known))
       (then (at-u2 1 0x55 2 (omega arith) (omega arith) (second-goes part known))
       (then (at-u1 2 0xa0 3 (omega arith) (omega arith) (arms part known))
-      (then (last 3 (omega arith) (rw z at starting)) (stays part _)))))
+      (ends (last 3 (omega arith) (rw z at starting))))))
       (λ z. then (at-u1 0 0xaa 1 zero-le (omega arith) (first-goes part known))
       (then (at-u2 1 0x55 2 (omega arith) (omega arith) (second-goes part known))
       (then (at-u1 2 0x80 4 (omega arith) (omega arith) (goes-on part known))
       (then (at-u1 4 0xaa 5 (omega arith) (omega arith) (third-goes part known))
       (then (at-u2 5 0x55 6 (omega arith) (omega arith) (fourth-goes part known))
-      (then (last 6 (omega arith) (rw z at starting)) (stays part _)))))))
+      (ends (last 6 (omega arith) (rw z at starting))))))))
     where
       w : Write
       w = lastWrite (rowOf part) command a x

@@ -8,8 +8,10 @@ pub mod Steps
 pub mod Talks
 pub mod Named
 pub mod Within
+pub mod Replies
 pub mod Commands
 pub mod Shown
 pub mod Begins
+pub mod Alike
 pub mod Theorems
 pub mod Determined

@@ -136,17 +136,17 @@ module _ (A : Type 0) (g : Phase → ℕ → Action → A) where
       ∙ ap (λ (l : List A). l ++ now (t .next) (t .driver .phase)) (append-assoc before (x ∷ []) L)
 
   talk-on : (part : ℕ) (wp : Bool) (n : ℕ) (before : List A) (s : Step) (h : Chip) → inRange (s .driver) ≡ true
-      → ((before : List A) (s : Step) (h : Chip) → inRange (s .driver) ≡ true → Adds before s (talk part wp n s h .last) (spoken part wp n s h))
-      → (x : Next) → s .next ≡ x → Adds before s (talk part wp (suc n) s h .last) (spoken part wp (suc n) s h)
+      → ((before : List A) (s : Step) (h : Chip) → inRange (s .driver) ≡ true → Adds before s (talk stepOf part wp n s h .last) (spoken part wp n s h))
+      → (x : Next) → s .next ≡ x → Adds before s (talk stepOf part wp (suc n) s h .last) (spoken part wp (suc n) s h)
   talk-on part wp n before s h i ih Nothing q = rw (talk-stops part wp n s h q, spoken-stops part wp n s h q) (stays before s)
   talk-on part wp n before s h i ih (Send e a) q =
       let c = cycle e wp a in
       let v = shows part h c in
       rw (talk-goes part wp n s h e a q, spoken-goes part wp n s h e a q)
-      (moves before s (talk part wp n (stepOf (s .driver) v) (after part h c) .last) e a _ v q i
+      (moves before s (talk stepOf part wp n (stepOf (s .driver) v) (after part h c) .last) e a _ v q i
       (ih (before ++ (g (s .driver .phase) e a ∷ [])) (stepOf (s .driver) v) (after part h c) (keeps (s .driver) v i)))
 
-  pub talk-adds : (part : ℕ) (wp : Bool) (n : ℕ) (before : List A) (s : Step) (h : Chip) → inRange (s .driver) ≡ true → Adds before s (talk part wp n s h .last) (spoken part wp n s h)
+  pub talk-adds : (part : ℕ) (wp : Bool) (n : ℕ) (before : List A) (s : Step) (h : Chip) → inRange (s .driver) ≡ true → Adds before s (talk stepOf part wp n s h .last) (spoken part wp n s h)
   unfolding talk spoken
   talk-adds part wp zero before s h i = stays before s
   talk-adds part wp (suc n) before s h i = talk-on part wp n before s h i (talk-adds part wp n) (s .next) refl

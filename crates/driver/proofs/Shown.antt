@@ -1,6 +1,6 @@
 -- What a read at the polled address shows once a command has completed: blank after an erase, the old value AND the data after a program.
-use Prim.Native.Nat.{ℕ, zero, suc, _+_, _≤_, _<_}
-use mathlib.Core.Path.{_≡_, refl, ap, _∙_}
+use Prim.Native.Nat.{ℕ, zero, suc, _+_, _/_, _%_, _≤_, _<_}
+use mathlib.Core.Path.{_≡_, refl, sym, ap, _∙_}
 use mathlib.Core.Bool.{Bool, true, false}
 use mathlib.Core.List.{List, [], _∷_, _++_, map}
 use native.Mathlib.Nat.{not-suc-le-zero, le-of-suc-le-suc}
@@ -8,7 +8,7 @@ use native.Mathlib.Omega.{arith}
 use borrow.Author.Tests.{eqb-true, ne-eqb}
 use lib.Dec.{eqb}
 use lib.ListN.{length, getD, take, drop}
-use lib.Bits.{bitAnd}
+use lib.Bits.{bitAnd, and-shr, and-mod}
 use Rattle.parts.specs.Pick.{pick}
 use Rattle.parts.specs.Width.{valueOf, blankOf}
 use Rattle.parts.specs.Table.{lines, noLine, rowFrom, rowOf, partRefusal}
@@ -21,6 +21,7 @@ use Rattle.parts.proofs.Ranges.{holds-bounds, sector-holds, block-holds}
 use Rattle.chip.specs.Operation.{cellsOf, over, finished, completeOn}
 use Rattle.driver.specs.Writes.{lastWrite}
 use Rattle.driver.specs.Machine.{addressOf, bitSeven, bitWanted, valueWanted}
+use Rattle.driver.specs.Endings.{MustRaiseSeven}
 use Rattle.driver.specs.Talk.{operationOf, completed, shownAfter}
 use Rattle.driver.proofs.Asked.{Target}
 use Rattle.driver.proofs.Commands.{command-le, four}
@@ -87,3 +88,23 @@ wanted-bit part command x k = by (eqb command 0)
     by : (z : Bool) → bitSeven (pick z x (blankOf (rowOf part .width))) ≡ pick z (bitSeven x) 1
     by true = refl
     by false = blank-bit part k
+
+-- ---- bit 7 of the old value AND the data
+and-seven : (old x : ℕ) → bitSeven (bitAnd old x) ≡ bitAnd (bitSeven old) (bitSeven x)
+and-seven old x = ap (λ (n : ℕ). n % 2) (and-shr old x 7) ∙ and-mod (old / 128) (x / 128) 1
+
+-- it is the data's where it has not to rise, and only there
+pub kept-seven : (old x : ℕ) → (MustRaiseSeven old x → ⊥) → bitSeven (bitAnd old x) ≡ bitSeven x
+kept-seven old x n = and-seven old x ∙ by (bitSeven old) (bitSeven x) (omega arith) (omega arith) n
+  where
+    by : (b c : ℕ) → b < 2 → c < 2 → ((b ≡ 0) × (c ≡ 1) → ⊥) → bitAnd b c ≡ c
+    by zero zero h k n = refl
+    by zero (suc zero) h k n = absurd (n (refl, refl))
+    by zero (suc (suc c)) h k n = absurd (omega arith)
+    by (suc zero) zero h k n = refl
+    by (suc zero) (suc zero) h k n = refl
+    by (suc zero) (suc (suc c)) h k n = absurd (omega arith)
+    by (suc (suc b)) c h k n = absurd (omega arith)
+
+pub lost-seven : (old x : ℕ) → MustRaiseSeven old x → bitSeven (bitAnd old x) ≡ bitSeven x → ⊥
+lost-seven old x m e = let z : _≡_ {A = ℕ} (bitAnd 0 1) 1 = rw (m .0, m .1) at (sym (and-seven old x) ∙ e) in omega arith

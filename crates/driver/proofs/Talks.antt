@@ -32,6 +32,7 @@ use Rattle.chip.specs.Trace.{leaves, after, play, startedBy, startedIn}
 use Rattle.chip.proofs.Accepted.{Valid, inside-cells}
 use Rattle.chip.proofs.Settled.{complete-length}
 use Rattle.chip.proofs.Idle.{idle-rests, idle-again}
+use Rattle.chip.proofs.Started.{last-starts-all, Leads}
 use Rattle.chip.proofs.Cases.{read-idle, read-busy, read-done}
 use Rattle.commands.specs.declared.write.Write.{Write}
 use Rattle.driver.specs.declared.machine.Phase.{Phase}
@@ -43,7 +44,7 @@ use Rattle.driver.specs.declared.machine.Step.{Step}
 use Rattle.driver.specs.Refusals.{startRefusal}
 use Rattle.driver.specs.Writes.{write, noWrite, lastWrite, writesOf, writeCount, nthWrite}
 use Rattle.driver.specs.Machine.{mostPolls, countFits, inRange, moved, step, ended, addressOf, bitSeven, bitWanted, valueWanted}
-use Rattle.driver.specs.Machine.{afterWrite, writingOf, polls, confirmAfter, matches, pollingOf, confirmingOf, phaseOf, stepOf}
+use Rattle.driver.specs.Machine.{afterWrite, writingOf, polls, confirms, confirmAfter, matches, pollingOf, confirmingOf, phaseOf, stepOf}
 use Rattle.driver.specs.Talk.{writeCycle, writeCycles, operationOf, Told, told, led, shows, talk}
 use Rattle.driver.specs.Reads.{Due, Scans, Polls, Confirms, begins, passes, Place, ARead, NoRead, placesIn}
 use Rattle.driver.proofs.Asked.{Begun, begun}
@@ -80,7 +81,7 @@ pub silent : {A : Type 0} (e : ℕ) (a : Action) → Nothing ≡ Send e a → A
 silent {A} e a q = let z : _≡_ {A = ℕ} 0 1 = cc in absurd (omega arith)
 
 module _ (part : ℕ) (wp : Bool) (m : ℕ) (t : Step) (h : Chip) where
-  pub talk-stops : t .next ≡ Nothing → talk part wp (suc m) t h ≡ told [] h t
+  pub talk-stops : t .next ≡ Nothing → talk stepOf part wp (suc m) t h ≡ told [] h t
   unfolding talk
   talk-stops q = by (t .next) _ q
     where
@@ -89,17 +90,17 @@ module _ (part : ℕ) (wp : Bool) (m : ℕ) (t : Step) (h : Chip) where
       by (Send e a) f q = silent e a (sym q)
 
   pub talk-goes : (e : ℕ) (a : Action) → t .next ≡ Send e a
-      → talk part wp (suc m) t h ≡ led (cycle e wp a) (talk part wp m (stepOf (t .driver) (shows part h (cycle e wp a))) (after part h (cycle e wp a)))
+      → talk stepOf part wp (suc m) t h ≡ led (cycle e wp a) (talk stepOf part wp m (stepOf (t .driver) (shows part h (cycle e wp a))) (after part h (cycle e wp a)))
   unfolding talk
   talk-goes e a q = rw (q, talk)
 
 module _ (part : ℕ) (wp : Bool) where
   pub sends : (n k e q : ℕ) (d : Driver) (a : Action) (h : Chip) (o : Outcome) → cycleOf part (h .cells) (h .device) (cycle e wp a) ≡ o
-      → talk part wp (suc n) (step k d (Send e a) q) h ≡ led (cycle e wp a) (talk part wp n (stepOf d (o .reply .value)) (leaves o))
+      → talk stepOf part wp (suc n) (step k d (Send e a) q) h ≡ led (cycle e wp a) (talk stepOf part wp n (stepOf d (o .reply .value)) (leaves o))
   unfolding talk after
-  sends n k e q d a h o eq = ap (λ (o : Outcome). led (cycle e wp a) (talk part wp n (stepOf d (o .reply .value)) (leaves o))) eq
+  sends n k e q d a h o eq = ap (λ (o : Outcome). led (cycle e wp a) (talk stepOf part wp n (stepOf d (o .reply .value)) (leaves o))) eq
 
-  pub rests-told : (n k q : ℕ) (d : Driver) (h : Chip) → talk part wp n (step k d Nothing q) h ≡ told [] h (step k d Nothing q)
+  pub rests-told : (n k q : ℕ) (d : Driver) (h : Chip) → talk stepOf part wp n (step k d Nothing q) h ≡ told [] h (step k d Nothing q)
   unfolding talk
   rests-told zero k q d h = refl
   rests-told (suc n) k q d h = refl
@@ -145,7 +146,7 @@ module _ (b : Driver) (accepted : startRefusal (b .part) (b .command) (b .addres
   some-time : 0 < timeOf r (b .command)
   some-time = time-some (b .part) known (b .command) few-commands
 
-  some-polls : 0 < most b
+  pub some-polls : 0 < most b
   unfolding mostPolls
   some-polls = omega (arith, positive (timeOf r (b .command)) (b .p) (valid .some) some-time)
 
@@ -154,26 +155,52 @@ module _ (b : Driver) (accepted : startRefusal (b .part) (b .command) (b .addres
   unfolding inRange
   takes f n read c = goes (moved b f n) read (rw accepted c)
 
+  -- after q polls: one more, the confirming read, or the end; and the end that the confirming read brings
+  abbrev hits : ℕ → Bool
+  hits read = eqb (bitSeven read) (bitWanted (b .command) (b .«data»))
+
+  module _ (q read : ℕ) (some : 0 < q) (few : q ≤ most b) where
+    pub poll-again : hits read ≡ false → q < most b → stepOf (moved b Polling q) read ≡ polls (moved b Polling q)
+    unfolding pollingOf matches
+    poll-again miss more = takes Polling q read (le-leb q (most b) few) ∙ rw (lt-ltb 0 q some, miss, lt-ltb q (most b) more)
+
+    pub confirm-then : hits read ≡ true → stepOf (moved b Polling q) read ≡ confirms (moved b Polling q)
+    unfolding pollingOf matches
+    confirm-then hit = takes Polling q read (le-leb q (most b) few) ∙ rw (lt-ltb 0 q some, hit)
+
+    pub give-up : hits read ≡ false → most b ≤ q → stepOf (moved b Polling q) read ≡ ended (moved b Polling q) GaveUp
+    unfolding pollingOf matches
+    give-up miss all = takes Polling q read (le-leb q (most b) few) ∙ rw (lt-ltb 0 q some, miss, le-ltb q (most b) all)
+
+    pub compare : stepOf (moved b Confirming q) read
+        ≡ ended (moved b Polling q) (pick (eqb (valueOf (r .width) read) (valueWanted r (b .command) (b .«data»))) Done Differs)
+    unfolding confirmingOf
+    compare = takes Confirming q read (rw (lt-ltb 0 q some) (le-leb q (most b) few)) ∙ one-end (eqb (valueOf (r .width) read) (valueWanted r (b .command) (b .«data»)))
+      where
+        one-end : (z : Bool) → pick z (ended (moved b Polling q) Done) (ended (moved b Polling q) Differs) ≡ ended (moved b Polling q) (pick z Done Differs)
+        one-end true = refl
+        one-end false = refl
+
   -- ---- the writes
   abbrev writeList : List Cycle
   writeList = writeCycles wp (writesOf r (b .command) (b .address) (b .«data»))
 
   -- the driver after k writes
-  driverAt : ℕ → Driver
+  unfoldable pub driverAt : ℕ → Driver
   driverAt k = pick (ltb k (writeCount (b .command))) (moved b Writing k) (moved b Polling 0)
 
-  first-poll : (read : ℕ) → stepOf (moved b Polling 0) read ≡ polls (moved b Polling 0)
+  pub first-poll : (read : ℕ) → stepOf (moved b Polling 0) read ≡ polls (moved b Polling 0)
   unfolding pollingOf matches
   first-poll read = takes Polling 0 read (le-leb 0 (most b) zero-le) ∙ rw (lt-ltb 0 (most b) some-polls)
 
-  write-step : (k read : ℕ) → k < writeCount (b .command)
+  pub write-step : (k read : ℕ) → k < writeCount (b .command)
       → stepOf (moved b Writing k) read ≡ step 0 (driverAt (suc k)) (Send 0 (writeCycle wp (nthWrite r (b .command) (b .address) (b .«data») k) .action)) 0
   unfolding writingOf afterWrite driverAt
   write-step k read h = takes Writing k read (lt-ltb k (writeCount (b .command)) h) ∙ rw (add-one k)
 
   writes-talk : (j k n m read : ℕ) (h : Chip) → k + j ≡ writeCount (b .command) → n ≡ j + m
-      → talk (b .part) wp n (stepOf (driverAt k) read) h
-      ≡ sent (drop k writeList) (talk (b .part) wp m (polls (moved b Polling 0)) (play (b .part) h (drop k writeList)))
+      → talk stepOf (b .part) wp n (stepOf (driverAt k) read) h
+      ≡ sent (drop k writeList) (talk stepOf (b .part) wp m (polls (moved b Polling 0)) (play (b .part) h (drop k writeList)))
   unfolding driverAt after
   writes-talk zero k n m read h e q =
       let w : writeCount (b .command) ≤ k = omega arith in
@@ -249,28 +276,26 @@ module _ (b : Driver) (accepted : startRefusal (b .part) (b .command) (b .addres
     same-done l t = refl
 
     waiting : (l q n : ℕ) (t : Bool) → b .p < l → l ≤ timeOf r (b .command) → q + 1 < most b
-        → talk (b .part) wp (suc n) (polls (moved b Polling q)) (chip cells (busyAt l t))
-        ≡ led poll (talk (b .part) wp n (polls (moved b Polling (q + 1))) (chip cells (busyAt (l - b .p) (not t))))
-    unfolding pollingOf matches
+        → talk stepOf (b .part) wp (suc n) (polls (moved b Polling q)) (chip cells (busyAt l t))
+        ≡ led poll (talk stepOf (b .part) wp n (polls (moved b Polling (q + 1))) (chip cells (busyAt (l - b .p) (not t))))
     waiting l q n t early most-time more =
         sends (b .part) wp n 0 (b .p) (q + 1) (moved b Polling (q + 1)) (Read at) (chip cells (busyAt l t)) _
         (read-busy (b .part) cells known whole at at-there (busyWith core (running l t)) (b .p) wp (running-valid l t most-time) early)
-        ∙ ap (λ (s : Step). led poll (talk (b .part) wp n s (chip cells (busyAt (l - b .p) (not t)))))
-        (takes Polling (q + 1) (status (running l t)) (le-leb (q + 1) (most b) (omega arith))
-        ∙ rw (lt-ltb 0 (q + 1) (omega arith), ne-eqb (bitSeven (status (running l t))) (bitWanted (b .command) (b .«data»)) (busy-differs l t), lt-ltb (q + 1) (most b) more))
+        ∙ ap (λ (s : Step). led poll (talk stepOf (b .part) wp n s (chip cells (busyAt (l - b .p) (not t)))))
+        (poll-again (q + 1) (status (running l t)) (omega arith) (omega arith) (ne-eqb (bitSeven (status (running l t))) (bitWanted (b .command) (b .«data»)) (busy-differs l t)) more)
 
     completing : (l q n : ℕ) (t : Bool) → 0 < l → l ≤ b .p → l ≤ timeOf r (b .command)
-        → talk (b .part) wp (suc n) (polls (moved b Polling q)) (chip cells (busyAt l t))
-        ≡ led poll (talk (b .part) wp n (stepOf (moved b Polling (q + 1)) shown) rested)
+        → talk stepOf (b .part) wp (suc n) (polls (moved b Polling q)) (chip cells (busyAt l t))
+        ≡ led poll (talk stepOf (b .part) wp n (stepOf (moved b Polling (q + 1)) shown) rested)
     completing l q n t some late most-time =
         sends (b .part) wp n 0 (b .p) (q + 1) (moved b Polling (q + 1)) (Read at) (chip cells (busyAt l t)) _
         (read-done (b .part) cells known whole at at-there (busyWith core (running l t)) (b .p) wp (running-valid l t most-time) some late)
-        ∙ ap (λ (xs : List ℕ). led poll (talk (b .part) wp n (stepOf (moved b Polling (q + 1)) (valueOf (r .width) (getD xs at 0))) (chip xs (device finished 0)))) (same-done l t)
+        ∙ ap (λ (xs : List ℕ). led poll (talk stepOf (b .part) wp n (stepOf (moved b Polling (q + 1)) (valueOf (r .width) (getD xs at 0))) (chip xs (device finished 0)))) (same-done l t)
 
     -- k polls come too early, and one more does not
     polling : (k l q n m : ℕ) (t : Bool) → k * b .p < l → l ≤ suc k * b .p → l ≤ timeOf r (b .command) → q + suc k ≤ most b → n ≡ suc k + m
-        → talk (b .part) wp n (polls (moved b Polling q)) (chip cells (busyAt l t))
-        ≡ sent (replicate (suc k) poll) (talk (b .part) wp m (stepOf (moved b Polling (q + suc k)) shown) rested)
+        → talk stepOf (b .part) wp n (polls (moved b Polling q)) (chip cells (busyAt l t))
+        ≡ sent (replicate (suc k) poll) (talk stepOf (b .part) wp m (stepOf (moved b Polling (q + suc k)) shown) rested)
     polling k l q zero m t early enough most-time within fuel = absurd (omega arith)
     polling zero l q (suc n) m t early enough most-time within fuel =
         let e : n ≡ m = omega arith in
@@ -287,8 +312,8 @@ module _ (b : Driver) (accepted : startRefusal (b .part) (b .command) (b .addres
     turns = pollsOf r (b .command) (b .p)
 
     all-polls : (n m : ℕ) → n ≡ turns + m
-        → talk (b .part) wp n (polls (moved b Polling 0)) (chip cells (device (busyWith core (operationOf r (b .command) (b .address) (b .«data»))) 0))
-        ≡ sent (replicate turns poll) (talk (b .part) wp m (stepOf (moved b Polling turns) shown) rested)
+        → talk stepOf (b .part) wp n (polls (moved b Polling 0)) (chip cells (device (busyWith core (operationOf r (b .command) (b .address) (b .«data»))) 0))
+        ≡ sent (replicate turns poll) (talk stepOf (b .part) wp m (stepOf (moved b Polling turns) shown) rested)
     unfolding mostPolls
     all-polls n m fuel = by turns refl
       where
@@ -296,8 +321,8 @@ module _ (b : Driver) (accepted : startRefusal (b .part) (b .command) (b .addres
         T = timeOf r (b .command)
 
         by : (k : ℕ) → turns ≡ k
-            → talk (b .part) wp n (polls (moved b Polling 0)) (chip cells (device (busyWith core (operationOf r (b .command) (b .address) (b .«data»))) 0))
-            ≡ sent (replicate turns poll) (talk (b .part) wp m (stepOf (moved b Polling turns) shown) rested)
+            → talk stepOf (b .part) wp n (polls (moved b Polling 0)) (chip cells (device (busyWith core (operationOf r (b .command) (b .address) (b .«data»))) 0))
+            ≡ sent (replicate turns poll) (talk stepOf (b .part) wp m (stepOf (moved b Polling turns) shown) rested)
         by zero e = absurd (omega (arith, positive T (b .p) (valid .some) some-time))
         by (suc k) e =
             let c : 0 + suc k ≡ suc k = omega arith in
@@ -351,44 +376,42 @@ module _ (b : Driver) (accepted : startRefusal (b .part) (b .command) (b .addres
 
     -- ---- the end: bit 7 matches
     confirming : (q n : ℕ) → 0 < q → q ≤ most b → eqb (bitSeven shown) (bitWanted (b .command) (b .«data»)) ≡ true
-        → talk (b .part) wp (suc n) (stepOf (moved b Polling q) shown) rested
+        → talk stepOf (b .part) wp (suc n) (stepOf (moved b Polling q) shown) rested
         ≡ told (cycle confirmAfter wp (Read at) ∷ []) rested (ended (moved b Polling q) (pick (eqb shown (valueWanted r (b .command) (b .«data»))) Done Differs))
-    unfolding pollingOf matches confirmingOf
     confirming q n some few hit =
-        ap (λ (s : Step). talk (b .part) wp (suc n) s rested) (takes Polling q shown (le-leb q (most b) few) ∙ rw (lt-ltb 0 q some, hit))
+        ap (λ (s : Step). talk stepOf (b .part) wp (suc n) s rested) (confirm-then q shown some few hit)
         ∙ (sends (b .part) wp n 0 confirmAfter q (moved b Confirming q) (Read at) rested _ (reads confirmAfter)
         ∙ ap (led (cycle confirmAfter wp (Read at)))
-        (ap (λ (s : Step). talk (b .part) wp n s rested)
-        (takes Confirming q shown (rw (lt-ltb 0 q some) (le-leb q (most b) few)) ∙ rw (value-value (r .width) (getD done at 0)) (one-end (eqb shown (valueWanted r (b .command) (b .«data»)))))
+        (ap (λ (s : Step). talk stepOf (b .part) wp n s rested)
+        (rw (value-value (r .width) (getD done at 0)) at (compare q shown some few))
         ∙ rests-told (b .part) wp n _ q _ rested))
-      where
-        one-end : (z : Bool) → pick z (ended (moved b Polling q) Done) (ended (moved b Polling q) Differs) ≡ ended (moved b Polling q) (pick z Done Differs)
-        one-end true = refl
-        one-end false = refl
 
     -- ---- or it never does, and the driver gives up
     giving-up : (j q n : ℕ) → 0 < q → q + j ≡ most b → j ≤ n → eqb (bitSeven shown) (bitWanted (b .command) (b .«data»)) ≡ false
-        → talk (b .part) wp n (stepOf (moved b Polling q) shown) rested ≡ sent (replicate j poll) (told [] rested (ended (moved b Polling (most b)) GaveUp))
-    unfolding pollingOf matches
+        → talk stepOf (b .part) wp n (stepOf (moved b Polling q) shown) rested ≡ sent (replicate j poll) (told [] rested (ended (moved b Polling (most b)) GaveUp))
     giving-up zero q n some all fuel miss =
         let e : q ≡ most b = omega arith in
-        ap (λ (s : Step). talk (b .part) wp n s rested)
-        (takes Polling q shown (le-leb q (most b) (omega arith)) ∙ rw (lt-ltb 0 q some, miss, le-ltb q (most b) (omega arith)))
+        ap (λ (s : Step). talk stepOf (b .part) wp n s rested) (give-up q shown some (omega arith) miss (omega arith))
         ∙ (rests-told (b .part) wp n 11 q (moved b GaveUp q) rested ∙ rw e)
     giving-up (suc j) q zero some all fuel miss = absurd (omega arith)
     giving-up (suc j) q (suc n) some all fuel miss =
-        ap (λ (s : Step). talk (b .part) wp (suc n) s rested)
-        (takes Polling q shown (le-leb q (most b) (omega arith)) ∙ rw (lt-ltb 0 q some, miss, lt-ltb q (most b) (omega arith)))
+        ap (λ (s : Step). talk stepOf (b .part) wp (suc n) s rested) (poll-again q shown some (omega arith) miss (omega arith))
         ∙ (sends (b .part) wp n 0 (b .p) (q + 1) (moved b Polling (q + 1)) (Read at) rested _ (reads (b .p))
         ∙ ap (led poll) (giving-up j (q + 1) n (omega arith) (omega arith) (omega arith) miss))
 
     -- ---- from an idle core, at a WP# level that does not protect
     module _ (heeded : ignored r wp (b .command) (b .address) ≡ false) where
-      played : play (b .part) (chip cells (device core 0)) writeList ≡ chip cells (device (busyWith core (operationOf r (b .command) (b .address) (b .«data»))) 0)
-      played = command-leads (b .part) known cells whole wp core (idle-rests core idles) (b .command) (b .address) (b .«data») (valid .asked .target) heeded .played
+      abbrev o : Operation
+      o = operationOf r (b .command) (b .address) (b .«data»)
 
-      starting : startedIn (b .part) (chip cells (device core 0)) writeList ≡ operationOf r (b .command) (b .address) (b .«data») ∷ []
-      starting = command-leads (b .part) known cells whole wp core (idle-rests core idles) (b .command) (b .address) (b .«data») (valid .asked .target) heeded .begun
+      leads : Leads (b .part) (chip cells (device core 0)) writeList (chip cells (device (busyWith core o) 0)) (o ∷ [])
+      leads = command-leads (b .part) known cells whole wp core (idle-rests core idles) (b .command) (b .address) (b .«data») (valid .asked .target) heeded
+
+      played : play (b .part) (chip cells (device core 0)) writeList ≡ chip cells (device (busyWith core o) 0)
+      played = leads .played
+
+      starting : startedIn (b .part) (chip cells (device core 0)) writeList ≡ o ∷ []
+      starting = last-starts-all (b .part) (chip cells (device core 0)) writeList (o ∷ []) (leads .last)
 
       -- all of its cycles by their places: no reads, N polls, the confirming read
       pub placed : (cs : List Cycle) → placesIn (b .part) Scans (chip cells (device core 0)) (writeList ++ (replicate turns poll ++ (cycle confirmAfter wp (Read at) ∷ cs)))
@@ -399,8 +422,8 @@ module _ (b : Driver) (accepted : startRefusal (b .part) (b .command) (b .addres
 
       -- the writes, and N polls
       opening : (n m read : ℕ) → n ≡ writeCount (b .command) + (turns + m)
-          → talk (b .part) wp n (stepOf (moved b Writing 0) read) (chip cells (device core 0))
-          ≡ sent writeList (sent (replicate turns poll) (talk (b .part) wp m (stepOf (moved b Polling turns) shown) rested))
+          → talk stepOf (b .part) wp n (stepOf (moved b Writing 0) read) (chip cells (device core 0))
+          ≡ sent writeList (sent (replicate turns poll) (talk stepOf (b .part) wp m (stepOf (moved b Polling turns) shown) rested))
       unfolding driverAt
       opening n m read fuel =
           let z : 0 + writeCount (b .command) ≡ writeCount (b .command) = omega arith in
@@ -408,7 +431,7 @@ module _ (b : Driver) (accepted : startRefusal (b .part) (b .command) (b .addres
           ∙ ap (sent writeList) (rw played (all-polls (turns + m) m refl))
 
       pub performs : (n read : ℕ) → writeCount (b .command) + turns + 1 ≤ n → eqb (bitSeven shown) (bitWanted (b .command) (b .«data»)) ≡ true
-          → talk (b .part) wp n (stepOf (moved b Writing 0) read) (chip cells (device core 0))
+          → talk stepOf (b .part) wp n (stepOf (moved b Writing 0) read) (chip cells (device core 0))
           ≡ told (writeList ++ (replicate turns poll ++ (cycle confirmAfter wp (Read at) ∷ []))) rested
           (ended (moved b Polling turns) (pick (eqb shown (valueWanted r (b .command) (b .«data»))) Done Differs))
       unfolding mostPolls
@@ -418,7 +441,7 @@ module _ (b : Driver) (accepted : startRefusal (b .part) (b .command) (b .addres
           ∙ ap (λ (t : Told). sent writeList (sent (replicate turns poll) t)) (confirming turns m (positive (timeOf r (b .command)) (b .p) (valid .some) some-time) (omega arith) hit)
 
       pub gives-up : (n read : ℕ) → writeCount (b .command) + turns * 2 ≤ n → eqb (bitSeven shown) (bitWanted (b .command) (b .«data»)) ≡ false
-          → talk (b .part) wp n (stepOf (moved b Writing 0) read) (chip cells (device core 0))
+          → talk stepOf (b .part) wp n (stepOf (moved b Writing 0) read) (chip cells (device core 0))
           ≡ told (writeList ++ replicate (turns * 2) poll) rested (ended (moved b Polling (turns * 2)) GaveUp)
       unfolding mostPolls
       gives-up n read enough miss =

@@ -18,13 +18,13 @@ use Rattle.driver.proofs.Named.{Adds, stays, moves, asCycle}
 module _ (wp : Bool) where
   -- the talk after a cycle
   abbrev rest : (ℕ → ℕ) → ℕ → Step → Heard
-  rest f n s = heard wp (λ i. f (suc i)) n (stepOf (s .driver) (f 0))
+  rest f n s = heard stepOf wp (λ i. f (suc i)) n (stepOf (s .driver) (f 0))
 
   abbrev turn : (ℕ → ℕ) → ℕ → Step → Next → Heard
   turn f n s x = elim x [ Nothing ↦ heardOf [] s | Send e a ↦ heardOf (cycle e wp a ∷ rest f n s .cycles) (rest f n s .last) ]
 
   -- once as many have been sent as are left, it has ended
-  pub over : (n : ℕ) (f : ℕ → ℕ) (s : Step) → leftFrom (s .next) (s .driver) ≤ n → heard wp f n s .last .next ≡ Nothing
+  pub over : (n : ℕ) (f : ℕ → ℕ) (s : Step) → leftFrom (s .next) (s .driver) ≤ n → heard stepOf wp f n s .last .next ≡ Nothing
   unfolding heard
   over zero f s = go (s .next) refl
     where
@@ -44,7 +44,7 @@ module _ (wp : Bool) where
     pub asked : t .last .driver ≡ moved (s .driver) (t .last .driver .phase) (t .last .driver .count)
     pub adds : Adds Cycle (asCycle wp) before s (t .last) (t .cycles)
 
-  pub stands : (n : ℕ) (f : ℕ → ℕ) (before : List Cycle) (s : Step) → StepInRange s → Stands before s (heard wp f n s)
+  pub stands : (n : ℕ) (f : ℕ → ℕ) (before : List Cycle) (s : Step) → StepInRange s → Stands before s (heard stepOf wp f n s)
   unfolding heard
   stands zero f before s k = record { kept = k; asked = refl; adds = stays Cycle (asCycle wp) before s }
   stands (suc n) f before s k = go (s .next) refl (λ b. stands n (λ i. f (suc i)) b (stepOf (s .driver) (f 0)) (kept (s .driver) (f 0) (k .range)))

@@ -4,3 +4,4 @@ pub mod Machine
 pub mod Fits
 pub mod Talk
 pub mod Reads
+pub mod Endings

@@ -151,7 +151,7 @@ fn start_on(found: Found, part: u32, command: u32, address: u32, data: u16, p: u
 pub fn start(part: u32, command: u32, address: u32, data: u16, p: u32) -> Started
     ensures { λ r. ⌜ r ≡ startOf part command address «data» p ⌝ }
 {
-    let found = parts::part_row(part);
+    let found = table::part_row(part);
     start_on(found, part, command, address, data, p)
 }
 
@@ -159,7 +159,7 @@ pub fn start(part: u32, command: u32, address: u32, data: u16, p: u32) -> Starte
 pub fn start_writing(part: u32, command: u32, address: u32, data: u16, p: u32) -> Step
     ensures { λ r. ⌜ r ≡ startWriting part command address «data» p ⌝ }
 {
-    let found = parts::part_row(part);
+    let found = table::part_row(part);
     let started = start_on(found, part, command, address, data, p);
     let d = started.driver;
     if started.answer == 0 {
@@ -378,7 +378,7 @@ impl Driver {
     pub fn step(self, read: u16) -> Step
         ensures { λ r. ⌜ r ≡ stepOf self read ⌝ }
     {
-        let found = parts::part_row(self.part);
+        let found = table::part_row(self.part);
         if !self.in_range(found) {
             return Step {
                 answer: BAD_STATE,

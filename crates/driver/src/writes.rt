@@ -150,7 +150,7 @@ pub(crate) fn nth_write(row: Row, command: u32, address: u32, data: u16, k: u32)
 pub fn command_writes(part: u32, command: u32, address: u32, data: u16) -> Writes
     ensures { λ r. ⌜ r ≡ commandWrites part command address «data» ⌝ }
 {
-    let found = parts::part_row(part);
+    let found = table::part_row(part);
     let answer = command_refusal(found, command, address, data);
     if 0 < answer {
         let none = Write {
@@ -182,7 +182,7 @@ fn refused(answer: u32) -> Kth
 pub fn kth_write(part: u32, command: u32, address: u32, data: u16, k: u32) -> Kth
     ensures { λ r. ⌜ r ≡ kthWrite part command address «data» k ⌝ }
 {
-    let found = parts::part_row(part);
+    let found = table::part_row(part);
     let answer = command_refusal(found, command, address, data);
     if 0 < answer {
         return refused(answer);

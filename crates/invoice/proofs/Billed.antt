@@ -22,17 +22,18 @@ use Rattle.chip.proofs.Idle.{fresh-idle}
 use Rattle.job.specs.declared.loader.Job.{Job}
 use Rattle.job.specs.declared.run.Tally.{Tally}
 use Rattle.job.specs.Refusal.{jobRefusal}
-use Rattle.job.specs.Run.{Sent, world, noneSent}
+use Rattle.job.specs.Run.{Sent, world, noneSent, playOf}
 use Rattle.job.specs.Sent.{sentOf}
 use Rattle.job.specs.Bill.{jobFrom, fullOf, played, playedAll, loadOf, reportOf}
 use Rattle.job.specs.Formulas.{tallyOf}
 use Rattle.job.proofs.Accepts.{Passed, passed}
 use Rattle.job.proofs.Counts.{play-tally, play-sent, job-fair, time-most}
-use Rattle.invoice.specs.Started.{cyclesIn, timeIn, many, tableTime}
+use Rattle.invoice.specs.Started.{cyclesIn, timeIn, lastIn, lastShown, tableTime}
 use Rattle.invoice.specs.Invoice.{started, placesSent, Invoice, Partly, Rival}
 use Rattle.chip.proofs.Started.{started-all}
-use Rattle.invoice.proofs.ByKind.{all-kinds}
+use Rattle.invoice.proofs.ByKind.{only-those}
 use Rattle.invoice.proofs.Placed.{placedAs, contents, map-take, places-take}
+use Rattle.invoice.proofs.Apiece.{Counts, Apiece, apiece-take, apiece-counts, told-last, no-last, shown-last}
 use Rattle.invoice.proofs.Starts.{world-plays}
 use Rattle.invoice.proofs.Image.{job-started}
 use Rattle.invoice.proofs.Least.{held, cells-left, image-left, others-left, job-times, no-less}
@@ -44,8 +45,16 @@ module _ (part : ℕ) (cells : List ℕ) (first : ℕ) (image : List ℕ) (wp : 
   pub ok : Passed part (length cells) first image wp p
   ok = passed part (length cells) first image wp p accepted
 
+  -- what is counted of cycles played from a fresh device on
+  tally-of : (L : List Sent) → playOf part (world cells noneSent) L .held .tally ≡ tallyOf L
+  tally-of L = play-tally part (world cells noneSent) L ∙ simp zero-add
+
   pub tally-is : playedAll part cells first image wp p .held .tally ≡ tallyOf (sentOf j image cells)
-  tally-is = play-tally part (world cells noneSent) (sentOf j image cells) ∙ simp zero-add
+  tally-is = tally-of (sentOf j image cells)
+
+  -- the job's cycles are each what they are counted and told as
+  each : Apiece part (world cells noneSent) (sentOf j image cells)
+  each = held j image (ok .right) cells (ok .whole) .apiece
 
   -- in their places the job's cycles are what their purposes say
   places : placesSent part cells first image wp p ≡ map placedAs (sentOf j image cells)
@@ -59,16 +68,10 @@ module _ (part : ℕ) (cells : List ℕ) (first : ℕ) (image : List ℕ) (wp : 
       let h = job-started j image (ok .right) cells (ok .whole) (sector-some (rowOf part .width)) in
       let f = job-fair j image (ok .right) cells (ok .whole) in
       let t = tally-is in
-      let s = held j image (ok .right) cells (ok .whole) in
       let c = contents (sentOf j image cells) in
       let e = places in
       let q = cells-left j image (ok .right) cells (ok .whole) in
-      let os = started part cells first image wp p in
-      let w = playedAll part cells first image wp p .held .tally in
-      let erased : w .erases ≡ many 1 os = rw (t, s .begun) (s .erases) in
-      let programmed : w .programs ≡ many 0 os = rw (t, s .begun) (s .programs) in
-      let no-block : many 2 os ≡ 0 = rw (s .begun) (s .blocks) in
-      let no-chip : many 3 os ≡ 0 = rw (s .begun) (s .chips) in
+      let n = apiece-counts part (world cells noneSent) (sentOf j image cells) each in
       rw (eq-eqb (jobRefusal part (length cells) first image wp p) 0 accepted)
       (record {
         holds = rw q (image-left j image (ok .right) cells (ok .whole));
@@ -76,7 +79,7 @@ module _ (part : ℕ) (cells : List ℕ) (first : ℕ) (image : List ℕ) (wp : 
         above = λ i l. rw q (others-left j image (ok .right) cells (ok .whole) i (inr l));
         rests = h .ready .rest;
         played = ap (λ (h : Chip). h .cells) (world-plays part (world cells noneSent) (sentOf j image cells));
-        only = omega (arith, all-kinds (rowOf part) os (started-all part (cyclesIn (sentOf j image cells)) (chip cells freshDevice)), erased, programmed, no-block, no-chip);
+        only = rw t (only-those (rowOf part) _ _ (started-all part (cyclesIn (sentOf j image cells)) (chip cells freshDevice)) n);
         answer = refl;
         polls = rw t (f .polls);
         spent = rw t (omega (arith, f .spent));
@@ -84,10 +87,10 @@ module _ (part : ℕ) (cells : List ℕ) (first : ℕ) (image : List ℕ) (wp : 
         scans = rw t (f .scans);
         saved = rw t (omega (arith, time-most j image (ok .right) cells (ok .whole)));
         sum = refl;
-        erases = erased;
-        programs = programmed;
-        blocks = no-block;
-        chips = no-chip;
+        erases = rw t (n .erases);
+        programs = rw t (n .programs);
+        blocks = n .blocks;
+        chips = n .chips;
         polled = rw (t, e) (c .polls);
         scanned = rw (t, e) (c .scans);
         confirmed = rw (t, e) (c .confirms);
@@ -99,19 +102,30 @@ module _ (part : ℕ) (cells : List ℕ) (first : ℕ) (image : List ℕ) (wp : 
   unfolding reportOf
   partly k =
       let L = sentOf j image cells in
+      let w = world cells noneSent in
+      let h = chip cells freshDevice in
+      let a = apiece-take part w k L each in
+      let n = apiece-counts part w (take k L) a in
       let c = contents (take k L) in
       let e = map-take Cycle (λ (s : Sent). s .cycle) k L in
-      let q : map placedAs (take k L) ≡ placesIn part Scans (chip cells freshDevice) (take k (cyclesIn L)) =
-      map-take Place placedAs k L ∙ (ap (take k) (sym places) ∙ sym (places-take part Scans (chip cells freshDevice) k (cyclesIn L))) in
-      let t : played part cells first image wp p k .held .tally ≡ tallyOf (take k L) = play-tally part (world cells noneSent) (take k L) ∙ simp zero-add in
+      let q : map placedAs (take k L) ≡ placesIn part Scans h (take k (cyclesIn L)) = map-take Place placedAs k L ∙ (ap (take k) (sym places) ∙ sym (places-take part Scans h k (cyclesIn L))) in
+      let t = tally-of (take k L) in
+      let os = startedIn part h (take k (cyclesIn L)) in
+      let m : Counts (played part cells first image wp p k .held .tally) os = rw (t, ← e) n in
       rw (eq-eqb (jobRefusal part (length cells) first image wp p) 0 accepted)
       (record {
-        played = ap (λ (h : Chip). h .cells) (world-plays part (world cells noneSent) (take k L)) ∙ ap (λ (cs : List Cycle). play part (chip cells freshDevice) cs .cells) e;
+        played = ap (λ (h : Chip). h .cells) (world-plays part w (take k L)) ∙ ap (λ (cs : List Cycle). play part h cs .cells) e;
+        last = told-last part cells (take k L) a ∙ ap lastIn e;
+        zeros = λ z. no-last part cells (take k L) (e ∙ z);
+        reply = shown-last part cells (take k L) ∙ ap (lastShown part h) e;
+        erases = m .erases;
+        programs = m .programs;
+        only = only-those (rowOf part) _ os (started-all part (take k (cyclesIn L)) h) m;
         polled = ap (λ (t : Tally). t .polls) t ∙ (c .polls ∙ ap (howMany Polls) q);
         scanned = ap (λ (t : Tally). t .scans) t ∙ (c .scans ∙ ap (howMany Scans) q);
         confirmed = ap (λ (t : Tally). t .confirms) t ∙ (c .confirms ∙ ap (howMany Confirms) q);
         timed = ap (λ (t : Tally). t .time) t ∙ (c .time ∙ ap timeIn e);
-        sent = play-sent part (world cells noneSent) (take k L) ∙ (zero-add (length (take k L)) ∙ (sym (length-map (take k L) (λ (s : Sent). s .cycle)) ∙ ap length e));
+        sent = play-sent part w (take k L) ∙ (zero-add (length (take k L)) ∙ (sym (length-map (take k L) (λ (s : Sent). s .cycle)) ∙ ap length e));
         answer = refl;
       })
 
@@ -125,14 +139,14 @@ module _ (part : ℕ) (cells : List ℕ) (first : ℕ) (image : List ℕ) (wp : 
   -- the job's own cycles are such a list
   pub job-rivals : Rival part cells first image freshDevice (cyclesIn (sentOf j image cells))
   job-rivals =
-      let s = held j image (ok .right) cells (ok .whole) in
+      let n = apiece-counts part (world cells noneSent) (sentOf j image cells) each in
       let h = job-started j image (ok .right) cells (ok .whole) (sector-some (rowOf part .width)) in
       let e = world-plays part (world cells noneSent) (sentOf j image cells) in
       record {
         begins = fresh-idle;
-        uncut = s .whole;
-        blocks = rw (s .begun) (s .blocks);
-        chips = rw (s .begun) (s .chips);
+        uncut = h .starts .whole;
+        blocks = n .blocks;
+        chips = n .chips;
         ends = rw (← e, h .ready .rest) fresh-idle;
         holds = rw (← e) (rw (cells-left j image (ok .right) cells (ok .whole)) (image-left j image (ok .right) cells (ok .whole)));
       }

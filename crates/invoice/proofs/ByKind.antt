@@ -13,7 +13,9 @@ use Rattle.parts.specs.declared.table.Row.{Row}
 use Rattle.parts.proofs.Every.{unless}
 use Rattle.chip.specs.declared.device.Operation.{Operation}
 use Rattle.chip.proofs.Started.{Startable, All}
+use Rattle.job.specs.declared.run.Tally.{Tally}
 use Rattle.invoice.specs.Started.{many}
+use Rattle.invoice.proofs.Apiece.{Counts}
 
 -- one kind is counted once
 abbrev of : ℕ → ℕ → ℕ
@@ -30,10 +32,14 @@ few : (r : Row) (n : ℕ) → hasCommand r n ≡ true → n ≤ 3
 unfolding hasCommand
 few r n h = ltb-false 3 n (unless _ _ h .0)
 
-pub all-kinds : (r : Row) (os : List Operation) → All (Startable r) os → length os ≡ many 0 os + (many 1 os + (many 2 os + many 3 os))
+all-kinds : (r : Row) (os : List Operation) → All (Startable r) os → length os ≡ many 0 os + (many 1 os + (many 2 os + many 3 os))
 all-kinds r [] a = refl
 all-kinds r (o ∷ os) a =
     let e = all-kinds r os (a .1) in
     let one = once (o .kind) (few r (o .kind) (a .0 .command)) in
     let l : length (o ∷ os) ≡ 1 + length os = omega arith in
     omega (arith, e, one, l)
+
+-- of which erases and programs are counted, and no others are among them
+pub only-those : (r : Row) (t : Tally) (os : List Operation) → All (Startable r) os → Counts t os → length os ≡ t .erases + t .programs
+only-those r t os a c = omega (arith, all-kinds r os a, c .erases, c .programs, c .blocks, c .chips)

@@ -48,7 +48,7 @@ use Rattle.invoice.proofs.Starts.{world-plays, play-append, operated-cy
 
 -- ---- a talk leaves what its cycles leave
 abbrev Plays : ℕ → Bool → ℕ → Step → Chip → Type 0
-Plays part wp m t h = play part h (talk part wp m t h .cycles) ≡ talk part wp m t h .chip
+Plays part wp m t h = play part h (talk stepOf part wp m t h .cycles) ≡ talk stepOf part wp m t h .chip
 
 plays-on : (part : ℕ) (wp : Bool) (m : ℕ) → ((t : Step) (h : Chip) → Plays part wp m t h) → (t : Step) (h : Chip) (x : Next) → t .next ≡ x → Plays part wp (suc m) t h
 plays-on part wp m ih t h Nothing q = rw (talk-stops part wp m t h q)

@@ -46,6 +46,7 @@ use Rattle.least.proofs.Bound.{operateAll-length}
 use Rattle.least.proofs.Theorem.{job-best, job-holds, job-elsewhere}
 use Rattle.invoice.specs.Started.{cyclesIn, many, tableTime}
 use Rattle.invoice.proofs.Listed.{programming, filling, looking, carrying, sectoring, sectoringAll, operationsOf}
+use Rattle.invoice.proofs.Apiece.{Counts, apiece-counts}
 use Rattle.invoice.proofs.Starts.{Starts, world-plays}
 use Rattle.invoice.proofs.Bits.{erasesIf, decision-is}
 use Rattle.invoice.proofs.Image.{job-started}
@@ -235,6 +236,10 @@ module _ (j : Job) (image : List ℕ) (R : AcceptedJob j image) (cells : List �
   pub held : Starts (j .part) (world cells noneSent) (sentOf j image cells) (operationsOf j image cells)
   held = job-started j image R cells full (rw (R .size) (sector-some (r .width))) .starts
 
+  -- its erases and programs are these
+  pub held-counts : Counts (tallyOf (sentOf j image cells)) (operationsOf j image cells)
+  held-counts = rw (held .begun) at (apiece-counts (j .part) (world cells noneSent) (sentOf j image cells) (held .apiece))
+
   startable : All (Startable r) (operationsOf j image cells)
   startable = rw (held .begun) at (started-all (j .part) (cyclesIn (sentOf j image cells)) (chip cells freshDevice))
 
@@ -254,7 +259,7 @@ module _ (j : Job) (image : List ℕ) (R : AcceptedJob j image) (cells : List �
   whole = sym sectors-count
 
   after-is : completeAll r (operationsOf j image cells) cells ≡ afterJob (r .width) size (j .first / size) (j .count / size) cells image
-  after-is = all-is r (operationsOf j image cells) startable (held .blocks) (held .chips) cells full .0 ∙ ap (λ (ops : List Op). operateAll (r .width) size ops cells) listed
+  after-is = all-is r (operationsOf j image cells) startable (held-counts .blocks) (held-counts .chips) cells full .0 ∙ ap (λ (ops : List Op). operateAll (r .width) size ops cells) listed
 
   -- the range holds the image
   pub image-left : (i : ℕ) → i < length image → valueOf (r .width) (getD (completeAll r (operationsOf j image cells) cells) (j .first + i) 0) ≡ getD image i 0
@@ -270,7 +275,7 @@ module _ (j : Job) (image : List ℕ) (R : AcceptedJob j image) (cells : List �
 
   -- the table times of the operations that the job starts are those of its erases and programs
   pub job-times : tableTime r (operationsOf j image cells) ≡ tallyOf (sentOf j image cells) .erases * timeOf r 1 + tallyOf (sentOf j image cells) .programs * timeOf r 0
-  job-times = rw (held .erases, held .programs) (times-are r (operationsOf j image cells) startable (held .blocks) (held .chips))
+  job-times = rw (held-counts .erases, held-counts .programs) (times-are r (operationsOf j image cells) startable (held-counts .blocks) (held-counts .chips))
 
   -- From the same cells and any idle device, a list of cycles without cut, that starts no block and no chip erase, ends idle and leaves the image in the
   -- range, starts operations whose table times add up to at least those of the job's.
@@ -283,7 +288,7 @@ module _ (j : Job) (image : List ℕ) (R : AcceptedJob j image) (cells : List �
   no-less d cs rests whole blocks chips ends holds =
       let os = startedIn (j .part) (chip cells d) cs in
       let t = all-is r os (started-all (j .part) cs (chip cells d)) blocks chips cells full in
-      let k = all-is r (operationsOf j image cells) startable (held .blocks) (held .chips) cells full in
+      let k = all-is r (operationsOf j image cells) startable (held-counts .blocks) (held-counts .chips) cells full in
       let p = trace (j .part) cs (chip cells d) whole rests ends in
       let same = there (play (j .part) (chip cells d) cs .cells) (operateAll (r .width) size (map (opOf size) os) cells) (p ∙ t .0) holds in
       let best = job-best (r .width) size (timeOf r 0) (timeOf r 1) (j .first / size) (j .count / size) cells image (map (opOf size) os) room same in

@@ -1,9 +1,11 @@
 pub mod Listed
 pub mod Placed
+pub mod Apiece
 pub mod Starts
 pub mod Bits
 pub mod Image
 pub mod Least
 pub mod Billed
+pub mod Alone
 pub mod Loads
 pub mod ByKind

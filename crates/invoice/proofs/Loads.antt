@@ -24,7 +24,7 @@ use Rattle.least.specs.LeastTime.{rising}
 use Rattle.invoice.specs.Started.{many}
 use Rattle.invoice.proofs.Listed.{carrying, sectoring, sectoringAll, operationsOf}
 use Rattle.invoice.proofs.Bits.{erasesIf, decision-is}
-use Rattle.invoice.proofs.Least.{fit-take, fit-drop, held, cells-left}
+use Rattle.invoice.proofs.Least.{fit-take, fit-drop, held-counts, cells-left}
 use Rattle.invoice.proofs.Billed.{ok, tally-is}
 
 -- ---- the job's operations, a sector's decision by how many of its cells have a bit that must rise: that is quick to compute
@@ -71,7 +71,7 @@ module _ (part : ℕ) (cells : List ℕ) (first : ℕ) (image : List ℕ) (wp : 
   counts-are : tallyOf (sentOf j image cells) ≡ counted j (many 1 os) (many 0 os)
   counts-are =
       let w = ok part cells first image wp p accepted in
-      let s = held j image (w .right) cells (w .whole) in
+      let s = held-counts j image (w .right) cells (w .whole) in
       let f = job-fair j image (w .right) cells (w .whole) in
       rw (← s .erases, ← s .programs) (same (tallyOf (sentOf j image cells)) (f .polls) (f .spent) (f .confirms) (f .scans))
     where

@@ -1,14 +1,11 @@
--- The operations that sent cycles start: none by reads, one by an operation's cycles; and the erases and programs counted are those operations.
-use Prim.Native.Nat.{ℕ, zero, suc, _+_, _≤_, _<_}
+-- The operations that sent cycles start: none by reads, one by an operation's cycles; and each cycle is what it is counted as.
+use Prim.Native.Nat.{ℕ, zero, suc, _+_, _≤_}
 use mathlib.Core.Path.{_≡_, refl, sym, ap, ap₂, _∙_}
 use mathlib.Core.Bool.{Bool, true, false}
 use mathlib.Core.List.{List, [], _∷_, _++_, map, append-assoc, map-append}
-use native.Mathlib.Nat.{zero-add, add-zero}
 use native.Mathlib.Omega.{arith}
 use borrow.Author.Tests.{ne-eqb}
-use lib.Dec.{eqb}
 use lib.ListN.{length, replicate}
-use Rattle.parts.specs.Pick.{pick}
 use Rattle.parts.specs.Table.{rowOf}
 use Rattle.parts.specs.Time.{pollsOf}
 use Rattle.chip.specs.declared.device.Operation.{Operation}
@@ -24,19 +21,17 @@ use Rattle.driver.specs.Writes.{writesOf, writeCount}
 use Rattle.driver.specs.Machine.{addressOf, confirmAfter}
 use Rattle.driver.specs.Talk.{writeCycles, operationOf, completed}
 use Rattle.driver.specs.Reads.{Scans, Polls, Confirms, Place, ARead, NoRead, placesIn}
-use Rattle.driver.specs.Refusals.{startRefusal}
+use Rattle.driver.specs.Refusals.{commandRefusal, startRefusal}
 use Rattle.driver.proofs.Asked.{asking, begun}
-use Rattle.driver.proofs.Theorems.{writes-start, placed as operation-placed}
+use Rattle.driver.proofs.Theorems.{writes-start, last-write-starts, placed as operation-placed}
 use Rattle.job.specs.declared.loader.Job.{Job}
-use Rattle.job.specs.declared.loader.Purpose.the-variants.{Poll, Confirm}
-use Rattle.job.specs.declared.run.Tally.{Tally}
-use Rattle.job.specs.Run.{Sent, sent, World, tally, sendOf, playOf}
-use Rattle.job.specs.Sent.{operated, scanRead}
-use Rattle.job.specs.Formulas.{tallyOf, N, operationTime}
+use Rattle.job.specs.declared.loader.Purpose.the-variants.{Scan, Poll, Confirm}
+use Rattle.job.specs.Run.{Sent, sent, World, sendOf, playOf}
+use Rattle.job.specs.Sent.{writesSent, operated, scanRead}
 use Rattle.job.proofs.Rest.{chipOf}
-use Rattle.job.proofs.Counts.{tally-append, program-tally, erase-tally}
-use Rattle.invoice.specs.Started.{cyclesIn, many}
+use Rattle.invoice.specs.Started.{cyclesIn}
 use Rattle.invoice.proofs.Placed.{placedAs}
+use Rattle.invoice.proofs.Apiece.{Apiece, read-piece, apiece-append, apiece-writes}
 
 -- ---- no cut
 writes-uncut : (wp : Bool) (ws : List Write) → uncut (writeCycles wp ws) ≡ true
@@ -73,26 +68,18 @@ cycles-append : (L M : List Sent) → cyclesIn (L ++ M) ≡ cyclesIn L ++ cycles
 cycles-append L M = map-append (λ (s : Sent). s .cycle) L M
 
 -- ---- sent cycles
--- from the world w on, the cycles L start the operations os; what they count as erases and programs are those, no others are among them, and there is no cut
+-- from the world w on, the cycles L start the operations os, each is what it is counted as, and there is no cut
 pub record Starts (part : ℕ) (w : World) (L : List Sent) (os : List Operation) : Type 0 where
   pub begun : startedIn part (chipOf w) (cyclesIn L) ≡ os
-  pub erases : tallyOf L .erases ≡ many 1 os
-  pub programs : tallyOf L .programs ≡ many 0 os
-  pub blocks : many 2 os ≡ 0
-  pub chips : many 3 os ≡ 0
+  pub apiece : Apiece part w L
   pub whole : uncut (cyclesIn L) ≡ true
   -- and in their places the cycles are what their purposes say, whatever follows
   pub placed : (cs : List Cycle) → placesIn part Scans (chipOf w) (cyclesIn L ++ cs) ≡ map placedAs L ++ placesIn part Scans (chipOf (playOf part w L)) cs
 
-many-append : (k : ℕ) (os ps : List Operation) → many k (os ++ ps) ≡ many k os + many k ps
-many-append k [] ps = sym (zero-add (many k ps))
-many-append k (o ∷ os) ps = omega (arith, many-append k os ps)
-
 module _ (part : ℕ) (w : World) where
   -- no cycle
   pub starts-none : Starts part w [] []
-  unfolding tallyOf
-  starts-none = record { begun = refl; erases = refl; programs = refl; blocks = refl; chips = refl; whole = refl; placed = λ cs. refl }
+  starts-none = record { begun = refl; apiece = tt; whole = refl; placed = λ cs. refl }
 
   -- two lists in a row
   pub starts-append : (L M : List Sent) (os ps : List Operation) → Starts part w L os → Starts part (playOf part w L) M ps → Starts part w (L ++ M) (os ++ ps)
@@ -102,10 +89,7 @@ module _ (part : ℕ) (w : World) where
             ∙ (started-append part (chipOf w) (cyclesIn L) (cyclesIn M)
             ∙ ap₂ {A = List Operation} {B = List Operation} {C = List Operation} (λ x y. x ++ y) (s .begun)
             (ap (λ (h : Chip). startedIn part h (cyclesIn M)) (sym (world-plays part w L)) ∙ t .begun));
-        erases = ap (λ (t : Tally). t .erases) (tally-append L M) ∙ omega (arith, many-append 1 os ps, s .erases, t .erases);
-        programs = ap (λ (t : Tally). t .programs) (tally-append L M) ∙ omega (arith, many-append 0 os ps, s .programs, t .programs);
-        blocks = omega (arith, many-append 2 os ps, s .blocks, t .blocks);
-        chips = omega (arith, many-append 3 os ps, s .chips, t .chips);
+        apiece = apiece-append part w L M (s .apiece) (t .apiece);
         whole = ap uncut (cycles-append L M) ∙ uncut-append (cyclesIn L) (cyclesIn M) (s .whole) (t .whole);
         placed = λ cs.
             ap (λ (l : List Cycle). placesIn part Scans (chipOf w) (l ++ cs)) (cycles-append L M)
@@ -119,8 +103,8 @@ module _ (part : ℕ) (w : World) where
   module _ (j : Job) (a : ℕ) where
     -- a read
     pub starts-read : Starts part w (scanRead j a ∷ []) []
-    unfolding tallyOf sendOf after
-    starts-read = record { begun = rw (read-starts part (chipOf w) 0 (j .wp) a); erases = refl; programs = refl; blocks = refl; chips = refl; whole = refl; placed = λ cs. refl }
+    unfolding sendOf after
+    starts-read = record { begun = rw (read-starts part (chipOf w) 0 (j .wp) a); apiece = (read-piece part (chipOf w) Scan 0 (j .wp) a refl refl, tt); whole = refl; placed = λ cs. refl }
 
 -- an operation's cycles, from an idle chip, where it is accepted and not ignored
 module _ (j : Job) (command a x : ℕ) (few : command ≤ 1) (row : j .row ≡ rowOf (j .part)) (w : World)
@@ -133,6 +117,9 @@ module _ (j : Job) (command a x : ℕ) (few : command ≤ 1) (row : j .row ≡ r
   abbrev n : ℕ
   n = pollsOf (rowOf (j .part)) command (j .p)
 
+  asks : commandRefusal (j .part) command a x ≡ 0
+  asks = asking (j .part) command a x (begun (j .part) command a x (j .p) accepted .asked)
+
   listed : cyclesIn (operated j command a x)
       ≡ writeCycles (j .wp) (writesOf (rowOf (j .part)) command a x)
       ++ (replicate (pollsOf (rowOf (j .part)) command (j .p)) (cycle (j .p) (j .wp) (Read a)) ++ (cycle confirmAfter (j .wp) (Read a) ∷ []))
@@ -142,7 +129,7 @@ module _ (j : Job) (command a x : ℕ) (few : command ≤ 1) (row : j .row ≡ r
   operated-begun =
       let r = rowOf (j .part) in
       let ws = writeCycles (j .wp) (writesOf r command a x) in
-      let s = writes-start (j .part) command a x (j .wp) (w .cells) (w .held .device) (asking (j .part) command a x (begun (j .part) command a x (j .p) accepted .asked)) whole rests heeded in
+      let s = writes-start (j .part) command a x (j .wp) (w .cells) (w .held .device) asks whole rests heeded in
       ap (startedIn (j .part) (chipOf w)) listed
       ∙ (started-append (j .part) (chipOf w) ws _
       ∙ ap₂ {A = List Operation} {B = List Operation} {C = List Operation} (λ x y. x ++ y) (s .1)
@@ -178,25 +165,27 @@ module _ (j : Job) (command a x : ℕ) (few : command ≤ 1) (row : j .row ≡ r
       )
       (rw plain at (operation-placed (j .part) command a x (j .p) (j .wp) (w .cells) (w .held .device) accepted whole rests heeded cs))
 
-  tallies : (c : ℕ) → c ≤ 1 → tallyOf (operated j c a x) ≡ tally (pick (eqb c 1) 1 0) (pick (eqb c 0) 1 0) (N j c) 0 1 (operationTime j c)
-  tallies zero le = program-tally j a x
-  tallies (suc zero) le = erase-tally j a x
-  tallies (suc (suc c)) le = absurd (omega arith)
+  -- each of them is what it is counted and told as
+  polls-apiece : (m : ℕ) (v : World) → Apiece (j .part) v (replicate m (sent Poll (cycle (j .p) (j .wp) (Read a))) ++ (sent Confirm (cycle confirmAfter (j .wp) (Read a)) ∷ []))
+  polls-apiece zero v = (read-piece (j .part) (chipOf v) Confirm confirmAfter (j .wp) a refl refl, tt)
+  polls-apiece (suc m) v = (read-piece (j .part) (chipOf v) Poll (j .p) (j .wp) a refl refl, polls-apiece m _)
 
-  other : (c : ℕ) → c ≤ 1 → (k : ℕ) → 1 < k → pick (eqb c k) 1 0 + 0 ≡ 0
-  other c le k lt = rw (ne-eqb c k (λ e. omega arith))
+  operated-apiece : Apiece (j .part) w (operated j command a x)
+  unfolding operated
+  operated-apiece =
+      rw row
+      (apiece-append (j .part) w (writesSent (j .wp) command (writesOf (rowOf (j .part)) command a x)) _
+      (apiece-writes (j .part) (j .wp) command (writesOf (rowOf (j .part)) command a x) o few refl w
+      (last-write-starts (j .part) command a x (j .wp) (w .cells) (w .held .device) asks whole rests heeded))
+      (polls-apiece n _))
 
   pub starts-operated : Starts (j .part) w (operated j command a x) (o ∷ [])
   starts-operated =
-      let t = tallies command few in
       let ws = writeCycles (j .wp) (writesOf (rowOf (j .part)) command a x) in
       let reads = replicate n (cycle (j .p) (j .wp) (Read a)) ++ (cycle confirmAfter (j .wp) (Read a) ∷ []) in
       record {
         begun = operated-begun;
-        erases = ap (λ (t : Tally). t .erases) t ∙ sym (add-zero _);
-        programs = ap (λ (t : Tally). t .programs) t ∙ sym (add-zero _);
-        blocks = other command few 2 (omega arith);
-        chips = other command few 3 (omega arith);
+        apiece = operated-apiece;
         whole = ap uncut listed ∙ uncut-append ws reads (writes-uncut (j .wp) (writesOf (rowOf (j .part)) command a x)) (reads-uncut n (j .p) confirmAfter (j .wp) a);
         placed = operated-placed;
       }

@@ -1,8 +1,8 @@
 -- What the customer pays for: what is said of every accepted job.
-use Prim.Native.Nat.{ℕ, _+_, _*_, _/_, _≤_, _<_}
+use Prim.Native.Nat.{ℕ, zero, suc, _+_, _*_, _/_, _≤_, _<_}
 use mathlib.Core.Path.{_≡_}
-use mathlib.Core.Bool.{Bool, true}
-use mathlib.Core.List.{List}
+use mathlib.Core.Bool.{Bool, true, false}
+use mathlib.Core.List.{List, [], _++_}
 use lib.ListN.{length, getD, take, drop}
 use Rattle.parts.specs.Names.{PROGRAM, SECTOR, BLOCK, CHIP}
 use Rattle.parts.specs.Width.{valueOf, sectorSize}
@@ -18,11 +18,18 @@ use Rattle.driver.specs.Reads.{Scans, Polls, Confirms, Place, placesIn, howMany
 use Rattle.job.specs.Total.{sumOf}
 use Rattle.job.specs.Sent.{sentOf}
 use Rattle.job.specs.Bill.{jobFrom, playedAll, Loaded, Reported}
-use Rattle.invoice.specs.Started.{cyclesIn, timeIn, many}
+use Rattle.invoice.specs.Started.{cyclesIn, timeIn, lastIn, lastShown, toldLast, many}
 
 -- the job's bus cycles
 abbrev pub sentCycles : ℕ → List ℕ → ℕ → List ℕ → Bool → ℕ → List Cycle
 sentCycles part cells first image wp p = cyclesIn (sentOf (jobFrom part first (length image) wp p) image cells)
+
+-- the bus cycles of n jobs of one sector each, from first on, every one on the same cells
+abbrev pub sectorsAlone : ℕ → List ℕ → Bool → ℕ → ℕ → ℕ → List ℕ → List Cycle
+sectorsAlone part cells wp p zero first image = []
+sectorsAlone part cells wp p (suc n) first image =
+    sentCycles part cells first (take (sectorSize (rowOf part .width)) image) wp p
+    ++ sectorsAlone part cells wp p n (first + sectorSize (rowOf part .width)) (drop (sectorSize (rowOf part .width)) image)
 
 -- the operations that they start, from a fresh device on
 abbrev pub started : ℕ → List ℕ → ℕ → List ℕ → Bool → ℕ → List Operation
@@ -64,14 +71,28 @@ pub record Invoice (part : ℕ) (cells : List ℕ) (first : ℕ) (image : List �
   pub sum : l .bill .sum ≡ sumOf (rowOf part .width) (take (length image) (drop first (l .cells)))
   pub answer : l .bill .answer ≡ 0
 
+-- the first k of them, all if fewer
+abbrev pub firstSent : ℕ → List ℕ → ℕ → List ℕ → Bool → ℕ → ℕ → List Cycle
+firstSent part cells first image wp p k = take k (sentCycles part cells first image wp p)
+
 -- what is said of the cells and the report that a second call came to: the first k of the job's bus cycles, all if fewer, played and counted
 pub record Partly (part : ℕ) (cells : List ℕ) (first : ℕ) (image : List ℕ) (wp : Bool) (p k : ℕ) (l : Reported) : Type 0 where
-  pub played : l .cells ≡ play part (chip cells freshDevice) (take k (sentCycles part cells first image wp p)) .cells
-  pub polled : l .report .polls ≡ howMany Polls (placesIn part Scans (chip cells freshDevice) (take k (sentCycles part cells first image wp p)))
-  pub scanned : l .report .scans ≡ howMany Scans (placesIn part Scans (chip cells freshDevice) (take k (sentCycles part cells first image wp p)))
-  pub confirmed : l .report .confirms ≡ howMany Confirms (placesIn part Scans (chip cells freshDevice) (take k (sentCycles part cells first image wp p)))
-  pub timed : l .report .time ≡ timeIn (take k (sentCycles part cells first image wp p))
-  pub sent : l .report .sent ≡ length (take k (sentCycles part cells first image wp p))
+  -- the cells are what these cycles leave, played from a fresh device on
+  pub played : l .cells ≡ play part (chip cells freshDevice) (firstSent part cells first image wp p k) .cells
+  -- the last cycle is the last of them, the k-th unless there are fewer; the reply is what it shows on the chip that those before it leave; zeros for none
+  pub last : toldLast (l .report .last) ≡ lastIn (firstSent part cells first image wp p k)
+  pub zeros : firstSent part cells first image wp p k ≡ [] → l .report .last ≡ record { kind = 0; elapsed = 0; wp = false; address = 0; «data» = 0 }
+  pub reply : l .report .reply ≡ lastShown part (chip cells freshDevice) (firstSent part cells first image wp p k)
+  -- the erases and programs are the operations that these cycles start on the chip; they start no other
+  pub erases : l .report .erases ≡ many SECTOR (startedIn part (chip cells freshDevice) (firstSent part cells first image wp p k))
+  pub programs : l .report .programs ≡ many PROGRAM (startedIn part (chip cells freshDevice) (firstSent part cells first image wp p k))
+  pub only : length (startedIn part (chip cells freshDevice) (firstSent part cells first image wp p k)) ≡ l .report .erases + l .report .programs
+  -- the polls, the scans and the confirming reads are those of these cycles, told by their places; and the time and the number sent are theirs
+  pub polled : l .report .polls ≡ howMany Polls (placesIn part Scans (chip cells freshDevice) (firstSent part cells first image wp p k))
+  pub scanned : l .report .scans ≡ howMany Scans (placesIn part Scans (chip cells freshDevice) (firstSent part cells first image wp p k))
+  pub confirmed : l .report .confirms ≡ howMany Confirms (placesIn part Scans (chip cells freshDevice) (firstSent part cells first image wp p k))
+  pub timed : l .report .time ≡ timeIn (firstSent part cells first image wp p k)
+  pub sent : l .report .sent ≡ length (firstSent part cells first image wp p k)
   pub answer : l .report .answer ≡ 0
 
 -- a list of bus cycles that also loads the image: from the same cells and an idle device, without cut, block or chip erase, to an idle device

@@ -1,12 +1,19 @@
--- Of sent cycles: their µs added up; and of the operations that they start, how many are of a kind, and their table times added up.
+-- Of sent cycles: their µs added up, the last one and what it shows; and of the operations that they start, how many are of a kind, and their table times
+-- added up.
 use Prim.Native.Nat.{ℕ, _+_}
 use mathlib.Core.List.{List, [], _∷_, map}
 use lib.Dec.{eqb}
-use Rattle.parts.specs.Pick.{pick}
+use Rattle.parts.specs.Names.{NO-CYCLE, A-READ}
+use Rattle.parts.specs.Pick.{pick, _when_, _else_}
 use Rattle.parts.specs.Time.{timeOf}
 use Rattle.parts.specs.declared.table.Row.{Row}
 use Rattle.chip.specs.declared.device.Operation.{Operation}
+use Rattle.chip.specs.declared.cycle.Action.the-variants.{Read, Write}
 use Rattle.chip.specs.declared.cycle.Cycle.{Cycle}
+use Rattle.chip.specs.Cycle.{cycle, Chip}
+use Rattle.chip.specs.Trace.{after}
+use Rattle.driver.specs.Talk.{shows}
+use Rattle.job.specs.declared.run.Last.{Last}
 use Rattle.job.specs.Run.{Sent}
 
 -- the bus cycles of a list of sent ones, without their purposes
@@ -17,6 +24,25 @@ cyclesIn L = map (λ (s : Sent). s .cycle) L
 abbrev pub timeIn : List Cycle → ℕ
 timeIn [] = 0
 timeIn (c ∷ cs) = c .elapsed + timeIn cs
+
+-- the last one, if any
+abbrev pub lastIn : List Cycle → List Cycle
+lastIn [] = []
+lastIn (c ∷ []) = c ∷ []
+lastIn (c ∷ (d ∷ cs)) = lastIn (d ∷ cs)
+
+-- what it shows on the chip that those before it leave, from h on; 0 for none
+abbrev pub lastShown : ℕ → Chip → List Cycle → ℕ
+lastShown part h [] = 0
+lastShown part h (c ∷ []) = shows part h c
+lastShown part h (c ∷ (d ∷ cs)) = lastShown part (after part h c) (d ∷ cs)
+
+-- the cycle that a report tells as the last: none, a read or a write
+abbrev pub toldLast : Last → List Cycle
+toldLast l =
+    [] when eqb (l .kind) NO-CYCLE
+    else (cycle (l .elapsed) (l .wp) (Read (l .address)) ∷ []) when eqb (l .kind) A-READ
+    else (cycle (l .elapsed) (l .wp) (Write (l .address) (l .«data»)) ∷ [])
 
 -- how many are of kind k, a command
 abbrev pub many : ℕ → List Operation → ℕ

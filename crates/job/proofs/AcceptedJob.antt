@@ -37,6 +37,13 @@ fit-at w [] e i h = absurd (not-suc-le-zero h)
 fit-at w (x ∷ xs) e zero h = both (fitsIn w x) (fitAll w xs) e .0
 fit-at w (x ∷ xs) e (suc i) h = fit-at w xs (both (fitsIn w x) (fitAll w xs) e .1) i (le-of-suc-le-suc h)
 
+-- the driver of a sector erase starts
+pub erase-begins : (part a p : ℕ) → partRefusal part ≡ 0 → a < rowOf part .cells → 0 < p → p ≤ 1000 → startRefusal part 1 a 0 p ≡ 0
+unfolding hasCommand
+erase-begins part a p k t s m =
+    beginning part 1 a 0 p
+    (record { asked = record { known = k; target = record { has = refl; there = λ _. t; fits = λ e. absurd (omega arith) } }; some = s; most = m })
+
 module _ (j : Job) (image : List ℕ) (R : AcceptedJob j image) where
   -- the driver of a program of a value of the image, and of a sector erase, starts
   pub program-starts : (a k : ℕ) → a < rowOf (j .part) .cells → k < length image → startRefusal (j .part) 0 a (getD image k 0) (j .p) ≡ 0
@@ -46,7 +53,4 @@ module _ (j : Job) (image : List ℕ) (R : AcceptedJob j image) where
       (record { asked = record { known = R .known; target = record { has = refl; there = λ _. t; fits = λ _. fit-at (rowOf (j .part) .width) image (R .fits) k h } }; some = R .some; most = R .most })
 
   pub erase-starts : (a : ℕ) → a < rowOf (j .part) .cells → startRefusal (j .part) 1 a 0 (j .p) ≡ 0
-  unfolding hasCommand
-  erase-starts a t =
-      beginning (j .part) 1 a 0 (j .p)
-      (record { asked = record { known = R .known; target = record { has = refl; there = λ _. t; fits = λ e. absurd (omega arith) } }; some = R .some; most = R .most })
+  erase-starts a t = erase-begins (j .part) a (j .p) (R .known) t (R .some) (R .most)

@@ -74,7 +74,7 @@ play-sent part w (s ∷ L) = omega (arith, play-sent part (sendOf part w (s .pur
 
 -- ---- parts of a list
 -- two lists together
-pub tally-append : (L M : List Sent) → tallyOf (L ++ M) ≡ plus (tallyOf L) (tallyOf M)
+tally-append : (L M : List Sent) → tallyOf (L ++ M) ≡ plus (tallyOf L) (tallyOf M)
 unfolding tallyOf
 tally-append [] M = sym (none-plus (tallyOf M))
 tally-append (s ∷ L) M =
@@ -93,12 +93,12 @@ polls-tally (suc n) e wp a =
 
 module _ (j : Job) where
   -- one program: N polls p apart, one confirming read
-  pub program-tally : (a x : ℕ) → tallyOf (operated j 0 a x) ≡ tally 0 1 (N j 0) 0 1 (operationTime j 0)
+  program-tally : (a x : ℕ) → tallyOf (operated j 0 a x) ≡ tally 0 1 (N j 0) 0 1 (operationTime j 0)
   unfolding operated writesOf tallyOf
   program-tally a x = simp (tally-append, polls-tally, zero-add, add-zero)
 
   -- one sector erase
-  pub erase-tally : (a x : ℕ) → tallyOf (operated j 1 a x) ≡ tally 1 0 (N j 1) 0 1 (operationTime j 1)
+  erase-tally : (a x : ℕ) → tallyOf (operated j 1 a x) ≡ tally 1 0 (N j 1) 0 1 (operationTime j 1)
   unfolding operated writesOf tallyOf
   erase-tally a x = simp (tally-append, polls-tally, zero-add, add-zero)
 

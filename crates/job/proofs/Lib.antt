@@ -1,5 +1,8 @@
 pub mod Turns
 pub mod InJob
+pub mod InRange
+pub mod AsItCame
+pub mod Falls
 pub mod Loop
 pub mod Rest
 pub mod Operates
@@ -9,7 +12,9 @@ pub mod Clears
 pub mod Sectors
 pub mod Accepts
 pub mod Runs
+pub mod OnBus
 pub mod Billing
 pub mod Counts
 pub mod Determined
 pub mod Sentences
+pub mod BySector

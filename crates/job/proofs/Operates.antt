@@ -80,7 +80,7 @@ module _ (j : Job) (image : List ℕ) (right : j .row ≡ rowOf (j .part)) (task
   -- the talk of it, from a world at rest whose cells are whole, where the value shown then is the wanted one
   module _ (w : World) (rest : w .held .device ≡ freshDevice) (whole : length (w .cells) ≡ rowOf (j .part) .cells)
       (same : shownAfter (rowOf (j .part)) command at x (w .cells) ≡ valueWanted (rowOf (j .part)) command x) where
-    talk-is : talk (j .part) (j .wp) fuel first (chipOf w)
+    talk-is : talk stepOf (j .part) (j .wp) fuel first (chipOf w)
         ≡ told (operationCycles (rowOf (j .part)) (j .wp) command at x (j .p) n Done) (chip (completed (rowOf (j .part)) command at x (w .cells)) freshDevice) (ended (moved b Polling n) Done)
     talk-is =
         rw (start-is (j .part) command at x (j .p) accepted) at

@@ -2,8 +2,9 @@
 use Prim.Native.Nat.{ℕ, zero, suc, _+_, _<_, _≤_}
 use mathlib.Core.Path.{_≡_, refl, sym, ap, _∙_}
 use mathlib.Core.List.{List, [], _∷_, _++_}
+use native.Mathlib.Nat.{not-suc-le-zero, le-of-suc-le-suc}
 use borrow.Author.Tests.{eq-eqb}
-use lib.ListN.{take}
+use lib.ListN.{length, take}
 use Rattle.chip.specs.declared.cycle.Action.{Action}
 use Rattle.chip.specs.declared.cycle.Cycle.{Cycle}
 use Rattle.chip.specs.Cycle.{cycle, Chip, chip}
@@ -36,33 +37,58 @@ chipOf w = chip (w .cells) (w .held .device)
 abbrev pub asSent : Job → ℕ → Phase → ℕ → Action → Sent
 asSent j command f e a = sent (purposeOf command f a) (cycle e (j .wp) a)
 
+-- what a run of at most k cycles has sent, and the turn that stands then
+pub record Pass : Type 0 where
+  pub sent : List Sent
+  pub turn : Turned
+
+abbrev pub pass : List Sent → Turned → Pass
+pass ss t = record { sent = ss; turn = t }
+
+-- a cycle in front
+abbrev pub ahead : Sent → Pass → Pass
+ahead s r = pass (s ∷ r .sent) (r .turn)
+
+abbrev pub passOf : Job → List ℕ → ℕ → Turned → World → Pass
+passOf j image zero t w = pass [] t
+passOf j image (suc k) t w =
+    elim (t .turn) [
+      | Stop n ↦ pass [] t
+      | Play l p c ↦ ahead (sent p c) (passOf j image k (turnOf j image (t .seen) l (sendOf (j .part) w p c .held .reply)) (sendOf (j .part) w p c))
+    ]
+
 module _ (j : Job) (image : List ℕ) where
+  -- a run of k cycles sends the first k of L, and once all are sent stands at its end
+  abbrev pub Passes : ℕ → Turned → World → List Sent → Type 0
+  Passes k t w L = (passOf j image k t w .sent ≡ take k L) × (length L ≤ k → passOf j image k t w .turn .turn ≡ Stop 0)
+
+  abbrev RunsTo : ℕ → Turned → World → List Sent → Type 0
+  RunsTo k t w L = (runOf j image k t w ≡ playOf (j .part) w (take k L)) × ((stopOf j image k t w ≡ 0) × Passes k t w L)
+
   -- from a turn on, the cycles to come are L, and the loader stops with 0
   unfoldable pub Rest : Turned → World → List Sent → Type 0
-  Rest t w L = (k : ℕ) → (runOf j image k t w ≡ playOf (j .part) w (take k L)) × (stopOf j image k t w ≡ 0)
+  Rest t w L = (k : ℕ) → RunsTo k t w L
 
   pub rest-none : (seen : List ℕ) (w : World) → Rest (turned seen (Stop 0)) w []
   unfolding Rest
   rest-none seen w = λ k. by k
     where
-      by : (k : ℕ) → (runOf j image k (turned seen (Stop 0)) w ≡ playOf (j .part) w (take k [])) × (stopOf j image k (turned seen (Stop 0)) w ≡ 0)
-      by zero = (refl, refl)
-      by (suc k) = (refl, refl)
+      by : (k : ℕ) → RunsTo k (turned seen (Stop 0)) w []
+      by zero = (refl, (refl, (refl, λ _. refl)))
+      by (suc k) = (refl, (refl, (refl, λ _. refl)))
 
   pub rest-more : (seen : List ℕ) (l : Loader) (p : Purpose) (c : Cycle) (w : World) (L : List Sent)
       → Rest (turnOf j image seen l (sendOf (j .part) w p c .held .reply)) (sendOf (j .part) w p c) L → Rest (turned seen (Play l p c)) w (sent p c ∷ L)
   unfolding Rest
   rest-more seen l p c w L h = λ k. by k
     where
-      by : (k : ℕ) → (runOf j image k (turned seen (Play l p c)) w ≡ playOf (j .part) w (take k (sent p c ∷ L))) × (stopOf j image k (turned seen (Play l p c)) w ≡ 0)
-      by zero = (refl, refl)
-      by (suc k) = h k
+      by : (k : ℕ) → RunsTo k (turned seen (Play l p c)) w (sent p c ∷ L)
+      by zero = (refl, (refl, (refl, λ le. absurd (not-suc-le-zero le))))
+      by (suc k) = let g = h k in (g .0, (g .1 .0, (ap (λ (ss : List Sent). sent p c ∷ ss) (g .1 .1 .0), λ le. g .1 .1 .1 (le-of-suc-le-suc le))))
 
   pub rest-is : (t t′ : Turned) (w : World) (L L′ : List Sent) → t ≡ t′ → L ≡ L′ → Rest t′ w L′ → Rest t w L
   unfolding Rest
-  rest-is t t′ w L L′ e f h = λ k.
-      let g = h k in
-      (ap (λ (t : Turned). runOf j image k t w) e ∙ (g .0 ∙ ap (λ (L : List Sent). playOf (j .part) w (take k L)) (sym f)), ap (λ (t : Turned). stopOf j image k t w) e ∙ g .1)
+  rest-is t t′ w L L′ e f h = rw (e, f) h
 
   -- ---- an operation that is driven at a cell of a sector
   module _ (task : Task) (base i : ℕ) (inside : base + j .size ≤ j .count) (there : i < j .size) (seen : List ℕ) (command : ℕ) where
@@ -71,7 +97,7 @@ module _ (j : Job) (image : List ℕ) where
     saying m t w = spoken Sent (asSent j command) (j .part) (j .wp) m t (chipOf w)
 
     abbrev talking : ℕ → Step → World → Told
-    talking m t w = talk (j .part) (j .wp) m t (chipOf w)
+    talking m t w = talk stepOf (j .part) (j .wp) m t (chipOf w)
 
     -- the loader's turn is the driver's step
     steps : (d : Driver) (r : ℕ) → turnOf j image seen (loader (Driving task d) base i) r ≡ turned seen (drivenOf j image task base i (stepOf d r))

@@ -7,3 +7,5 @@ pub mod Run
 pub mod Sent
 pub mod Formulas
 pub mod Bill
+pub mod Loading
+pub mod Socket

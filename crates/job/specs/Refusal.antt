@@ -29,19 +29,40 @@ meets s first count =
 unfoldable pub protectionRefusal : Row → ℕ → ℕ → Bool → ℕ
 protectionRefusal r first count wp = 0 when wp else PROTECTED when meets (protectedOf r) first count else 0
 
--- 6: first or count not a multiple of the sector; 7: first + count past the cells; 8: an image value that does not fit; 9
+-- 6: first or count not a multiple of the sector; 7: first + count past the cells
+unfoldable pub sectorsRefusal : Row → ℕ → ℕ → ℕ
+sectorsRefusal r first count =
+    NOT-SECTORS when ltb 0 (first % sectorSize (r .width))
+    else NOT-SECTORS when ltb 0 (count % sectorSize (r .width))
+    else PAST-CELLS unless leb (first + count) (r .cells)
+    else 0
+
+-- 6, 7; 8: an image value that does not fit; 9
 unfoldable pub rangeRefusal : Row → ℕ → List ℕ → Bool → ℕ
 rangeRefusal r first image wp =
-    NOT-SECTORS when ltb 0 (first % sectorSize (r .width))
-    else NOT-SECTORS when ltb 0 (length image % sectorSize (r .width))
-    else PAST-CELLS unless leb (first + length image) (r .cells)
-    else WIDE-IMAGE unless fitAll (r .width) image
+    sectorsRefusal r first (length image)
+    orElse WIDE-IMAGE unless fitAll (r .width) image
     else protectionRefusal r first (length image) wp
 
--- 1; 2: lent cells are not the part's number; 10: p is 0 or above 1,000; then 6, 7, 8, 9
+-- 10: p is 0 or above 1,000; then 6, 7, 8, 9
+abbrev pub requestRefusal : Row → ℕ → List ℕ → Bool → ℕ → ℕ
+requestRefusal r first image wp p = BAD-INTERVAL unless isInterval p else rangeRefusal r first image wp
+
+-- 1; 2: lent cells are not the part's number; then 10, 6, 7, 8, 9
 unfoldable pub jobRefusal : ℕ → ℕ → ℕ → List ℕ → Bool → ℕ → ℕ
 jobRefusal part lent first image wp p =
     partRefusal part
     orElse WRONG-CELLS unless eqb lent (rowOf part .cells)
-    else BAD-INTERVAL unless isInterval p
-    else rangeRefusal (rowOf part) first image wp
+    else requestRefusal (rowOf part) first image wp p
+
+-- the same of a job to which no cells are lent: 1, 10, 6, 7, 8, 9
+unfoldable pub beginRefusal : ℕ → ℕ → List ℕ → Bool → ℕ → ℕ
+beginRefusal part first image wp p = partRefusal part orElse requestRefusal (rowOf part) first image wp p
+
+-- those that are found with no pass over the image, of count values: 1, 10, 6, 7, 9
+unfoldable pub standingRefusal : ℕ → ℕ → ℕ → Bool → ℕ → ℕ
+standingRefusal part first count wp p =
+    partRefusal part
+    orElse BAD-INTERVAL unless isInterval p
+    else sectorsRefusal (rowOf part) first count
+    orElse protectionRefusal (rowOf part) first count wp

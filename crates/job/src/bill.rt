@@ -44,10 +44,10 @@ pub struct Report {
 }
 
 // A job that was not refused.
-fn job_of(part: u32, first: u32, count: u32, wp: bool, p: u32) -> Job
+pub(crate) fn job_of(part: u32, first: u32, count: u32, wp: bool, p: u32) -> Job
     ensures { λ r. ⌜ r ≡ jobFrom part first count wp p ⌝ }
 {
-    let found = parts::part_row(part);
+    let found = table::part_row(part);
     let row = found.row;
     Job {
         part,

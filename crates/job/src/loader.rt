@@ -315,7 +315,7 @@ fn purpose_of(d: Driver, action: Action) -> Purpose
 
 impl Loader {
     // Whether the loader is in its job: its sector in the image, its cell in the sector.
-    fn is_in_job(self, job: Job) -> bool
+    pub(crate) fn is_in_job(self, job: Job) -> bool
         ensures { λ r. ⌜ r ≡ inJob job self ⌝ }
     {
         if self.base as u64 + job.size as u64 <= job.count as u64 {

@@ -10,7 +10,7 @@ use parts::names::WRONG_CELLS;
 ghost use mathlib.Core.Path.{_≡_};
 ghost use Prim.Native.Nat.{_+_, _≤_};
 ghost use lib.Dec.{leb};
-ghost use Rattle.job.specs.Refusal.{fitAll, jobRefusal, meets, protectionRefusal, rangeRefusal};
+ghost use Rattle.job.specs.Refusal.{beginRefusal, fitAll, jobRefusal, meets, protectionRefusal, rangeRefusal, requestRefusal, sectorsRefusal, standingRefusal};
 
 // Whether every image value fits the width.
 fn all_fit(width: u32, image: &[u16]) -> bool
@@ -65,26 +65,47 @@ fn protection_refusal(row: Row, first: usize, count: usize, wp: bool) -> u32
     0
 }
 
-// The refusal of a range and an image: 6, 7, 8, 9.
-fn range_refusal(row: Row, first: u32, image: &[u16], wp: bool) -> u32
-    ensures { λ r. ⌜ r ≡ rangeRefusal row first (now (image .entry)) wp ⌝ }
+// The refusal of a range: 6, 7.
+fn sectors_refusal(row: Row, first: usize, count: usize) -> u32
+    ensures { λ r. ⌜ r ≡ sectorsRefusal row first count ⌝ }
 {
     let size = row.sector_size() as usize;
-    let from = first as usize;
-    let count = image.len();
-    if 0 < from % size {
+    if 0 < first % size {
         return NOT_SECTORS;
     }
     if 0 < count % size {
         return NOT_SECTORS;
     }
-    if !within(row.cells as usize, from, count) {
+    if !within(row.cells as usize, first, count) {
         return PAST_CELLS;
+    }
+    0
+}
+
+// The refusal of a range and an image: 6, 7, 8, 9.
+fn range_refusal(row: Row, first: u32, image: &[u16], wp: bool) -> u32
+    ensures { λ r. ⌜ r ≡ rangeRefusal row first (now (image .entry)) wp ⌝ }
+{
+    let from = first as usize;
+    let count = image.len();
+    let answer = sectors_refusal(row, from, count);
+    if 0 < answer {
+        return answer;
     }
     if !all_fit(row.width, image) {
         return WIDE_IMAGE;
     }
     protection_refusal(row, from, count, wp)
+}
+
+// The refusal of what is asked of a part: 10, 6, 7, 8, 9.
+fn request_refusal(row: Row, first: u32, image: &[u16], wp: bool, p: u32) -> u32
+    ensures { λ r. ⌜ r ≡ requestRefusal row first (now (image .entry)) wp p ⌝ }
+{
+    if !parts::is_interval(p) {
+        return BAD_INTERVAL;
+    }
+    range_refusal(row, first, image, wp)
 }
 
 // The refusal of a job: 1, 2, 10, 6, 7, 8, 9.
@@ -98,7 +119,7 @@ pub(crate) fn job_refusal(
 ) -> u32
     ensures { λ r. ⌜ r ≡ jobRefusal part lent first (now (image .entry)) wp p ⌝ }
 {
-    let found = parts::part_row(part);
+    let found = table::part_row(part);
     let answer = found.answer;
     if 0 < answer {
         return answer;
@@ -107,8 +128,37 @@ pub(crate) fn job_refusal(
     if lent != row.cells as usize {
         return WRONG_CELLS;
     }
+    request_refusal(row, first, image, wp, p)
+}
+
+// The refusal of a job to which no cells are lent: 1, 10, 6, 7, 8, 9.
+pub(crate) fn begin_refusal(part: u32, first: u32, image: &[u16], wp: bool, p: u32) -> u32
+    ensures { λ r. ⌜ r ≡ beginRefusal part first (now (image .entry)) wp p ⌝ }
+{
+    let found = table::part_row(part);
+    let answer = found.answer;
+    if 0 < answer {
+        return answer;
+    }
+    request_refusal(found.row, first, image, wp, p)
+}
+
+// The refusal of a job that is found with no pass over its image: 1, 10, 6, 7, 9.
+pub(crate) fn standing_refusal(part: u32, first: u32, count: u32, wp: bool, p: u32) -> u32
+    ensures { λ r. ⌜ r ≡ standingRefusal part first count wp p ⌝ }
+{
+    let found = table::part_row(part);
+    let unknown = found.answer;
+    if 0 < unknown {
+        return unknown;
+    }
     if !parts::is_interval(p) {
         return BAD_INTERVAL;
     }
-    range_refusal(row, first, image, wp)
+    let row = found.row;
+    let answer = sectors_refusal(row, first as usize, count as usize);
+    if 0 < answer {
+        return answer;
+    }
+    protection_refusal(row, first as usize, count as usize, wp)
 }

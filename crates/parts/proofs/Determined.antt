@@ -9,10 +9,6 @@ use Rattle.parts.proofs.width.fits.Kinds as fits-kinds
 use Rattle.parts.proofs.width.fits.Reads as fits-reads
 use Rattle.parts.proofs.table.Row.has_command.Kinds as has-command-kinds
 use Rattle.parts.proofs.table.Row.has_command.Reads as has-command-reads
-use Rattle.parts.proofs.table.part_row.Kinds as part-row-kinds
-use Rattle.parts.proofs.table.part_row.Reads as part-row-reads
-use Rattle.parts.proofs.figure.part_figure.Kinds as part-figure-kinds
-use Rattle.parts.proofs.figure.part_figure.Reads as part-figure-reads
 use Rattle.parts.proofs.span.Span.holds.Kinds as holds-kinds
 use Rattle.parts.proofs.span.Span.holds.Reads as holds-reads
 use Rattle.parts.proofs.table.Row.sector_size.Kinds as sector-size-kinds
@@ -37,12 +33,6 @@ value-unique κs a x y s t p q = p ∙ sym q
 
 pub blank-unique : Unique blank-kinds.ps blank-kinds.r blank-reads.Post
 blank-unique κs a x y s t p q = p ∙ sym q
-
-pub part-row-unique : Unique part-row-kinds.ps part-row-kinds.r part-row-reads.Post
-part-row-unique κs a x y s t p q = p ∙ sym q
-
-pub part-figure-unique : Unique part-figure-kinds.ps part-figure-kinds.r part-figure-reads.Post
-part-figure-unique κs a x y s t p q = p ∙ sym q
 
 pub holds-unique : Unique holds-kinds.ps holds-kinds.r holds-reads.Post
 holds-unique κs a x y s t p q = p ∙ sym q

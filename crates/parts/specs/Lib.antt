@@ -2,6 +2,5 @@ pub mod Names
 pub mod Pick
 pub mod Width
 pub mod Table
-pub mod Figures
 pub mod Span
 pub mod Time

@@ -11,7 +11,7 @@ use crate::station::Turn;
 
 // Command 40.
 fn figure(s: Station, line: Line) -> Turn {
-    let f = parts::part_figure(line.long(1), line.long(2));
+    let f = table::part_figure(line.long(1), line.long(2));
     s.says(no_line().and(40).and32(f.answer).and32(f.value))
 }
 

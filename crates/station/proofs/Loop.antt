@@ -46,13 +46,13 @@ cycle-of-device part cells d c = by (eqb n 0) refl
 module _ (wp : ℕ) where
   -- ---- against the model
   abbrev Same : ℕ → ℕ → Step → Chip → Type 0
-  Same part n s h = loop part wp n (stepNumbers s) (h .cells) (deviceNumbers (h .device)) ≡ toldNumbers (talk part (high wp) n s h)
+  Same part n s h = loop part wp n (stepNumbers s) (h .cells) (deviceNumbers (h .device)) ≡ toldNumbers (talk stepOf part (high wp) n s h)
 
   -- once a cycle is sent
   goes-on : (part n : ℕ) → ((s : Step) → NextBack s → (h : Chip) → Same part n s h) → (d : Driver) (e : ℕ) (a : Action) (h : Chip)
       → let v = deviceNumbers (h .device) in let o = cycledOf part (h .cells) v e wp a in let c = cycle e (high wp) a in
       loop part wp n (steppedOf (driverNumbers d) (o .reply .value)) (o .cells) (o .reply .device)
-      ≡ toldNumbers (talk part (high wp) n (stepOf d (shows part h c)) (after part h c))
+      ≡ toldNumbers (talk stepOf part (high wp) n (stepOf d (shows part h c)) (after part h c))
   unfolding after
   goes-on part n rest d e a h =
       let c = cycle e (high wp) a in
@@ -60,7 +60,7 @@ module _ (wp : ℕ) where
       (rest (stepOf d (shows part h c)) (next-back d (shows part h c)) (after part h c))
 
   pub loop-is-talk : (part n : ℕ) (s : Step) → NextBack s → (h : Chip)
-      → loop part wp n (stepNumbers s) (h .cells) (deviceNumbers (h .device)) ≡ toldNumbers (talk part (high wp) n s h)
+      → loop part wp n (stepNumbers s) (h .cells) (deviceNumbers (h .device)) ≡ toldNumbers (talk stepOf part (high wp) n s h)
   unfolding loop talk
   loop-is-talk part zero s b h = refl
   loop-is-talk part (suc n) s b h = by (loop-is-talk part n) (s .next) refl
@@ -73,9 +73,9 @@ module _ (wp : ℕ) where
 
   -- ---- against any replies
   abbrev SameHeard : (ℕ → ℕ) → ℕ → Step → Type 0
-  SameHeard f n s = loopHearing wp f n (stepNumbers s) ≡ heardNumbers (heard (high wp) f n s)
+  SameHeard f n s = loopHearing wp f n (stepNumbers s) ≡ heardNumbers (heard stepOf (high wp) f n s)
 
-  pub hearing-is-heard : (f : ℕ → ℕ) (n : ℕ) (s : Step) → NextBack s → loopHearing wp f n (stepNumbers s) ≡ heardNumbers (heard (high wp) f n s)
+  pub hearing-is-heard : (f : ℕ → ℕ) (n : ℕ) (s : Step) → NextBack s → loopHearing wp f n (stepNumbers s) ≡ heardNumbers (heard stepOf (high wp) f n s)
   unfolding loopHearing heard
   hearing-is-heard f zero s b = refl
   hearing-is-heard f (suc n) s b = by (hearing-is-heard (λ i. f (suc i)) n (stepOf (s .driver) (f 0)) (next-back (s .driver) (f 0))) (s .next) refl

@@ -1,6 +1,6 @@
 // Part figures, and the k-th write of a command, as plain numbers.
 ghost use mathlib.Core.Path.{_≡_};
-ghost use Rattle.parts.specs.Figures.{figureOf};
+ghost use Rattle.table.specs.Figures.{figureOf};
 ghost use Rattle.driver.specs.Writes.{kthWrite};
 
 // The figure of a part in a column, 0 Width to 6 Chip; 0 where it is refused.
@@ -8,7 +8,7 @@ ghost use Rattle.driver.specs.Writes.{kthWrite};
 pub extern "C" fn station_figure(part: u32, column: u32) -> u32
     ensures { λ r. ⌜ r ≡ figureOf part column .value ⌝ }
 {
-    let figure = parts::part_figure(part, column);
+    let figure = table::part_figure(part, column);
     figure.value
 }
 
@@ -17,7 +17,7 @@ pub extern "C" fn station_figure(part: u32, column: u32) -> u32
 pub extern "C" fn station_figure_answer(part: u32, column: u32) -> u32
     ensures { λ r. ⌜ r ≡ figureOf part column .answer ⌝ }
 {
-    let asked = parts::part_figure(part, column);
+    let asked = table::part_figure(part, column);
     asked.answer
 }
 

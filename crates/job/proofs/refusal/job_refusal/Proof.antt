@@ -1,7 +1,7 @@
 -- `job::refusal::job_refusal` meets its contract.
 use mathlib.Core.Path.{ap, sym, _∙_}
+use borrow.Author.Tests.{eq-eqb, ne-eqb, lt-ltb, le-ltb}
 use borrow.Author.Needs.{needs}
-use borrow.Author.Tests.{eq-eqb, ne-eqb, lt-ltb, le-ltb, not-true, not-false}
 use Rattle.job.specs.Refusal.{jobRefusal}
 use Rattle.parts.specs.declared.table.Found.{Found}
 use Rattle.job.proofs.refusal.job_refusal.Statement.{statement}
@@ -9,45 +9,17 @@ use Rattle.job.proofs.refusal.job_refusal.Tie as tie
 
 returns : tie.Need-returns
 unfolding jobRefusal
-returns c = let e = ap (λ (f : Found). f .answer) (c .before .part-row .ensures) in simp (sym e, lt-ltb _ _ (c .if1 .taken))
+returns c = simp (sym (ap (λ (f : Found). f .answer) (c .before .part-row .ensures)), lt-ltb _ _ (c .if1 .taken))
 
 returns-2 : tie.Need-returns-2
 unfolding jobRefusal
-returns-2 c = let e = ap (λ (f : Found). f .answer) (c .before .before .before .before .part-row .ensures) in
-    let r = ap (λ (f : Found). f .row) (c .before .before .before .before .part-row .ensures) in
-    simp (sym e, sym r, le-ltb _ _ (c .before .before .before .if1 .left), ne-eqb _ _ (c .if2 .taken))
+returns-2 c = let f = c .before .before .before .before .part-row .ensures in simp (sym (ap (λ (f : Found). f .answer) f), sym (ap (λ (f : Found). f .row) f), le-ltb _ _ (c .before .before .before .if1 .left), ne-eqb _ _ (c .if2 .taken))
 
 returns-3 : tie.Need-returns-3
 unfolding jobRefusal
-returns-3 c = let f = c .before .before .before .before .before .before .part-row .ensures in
-    simp (
-      sym (ap (λ (f : Found). f .answer) f),
-      sym (ap (λ (f : Found). f .row) f),
-      le-ltb _ _ (c .before .before .before .before .before .if1 .left),
-      eq-eqb _ _ (c .before .before .if2 .left),
-      sym (c .before .is-interval .ensures) ∙ not-true _ (c .if3 .taken),
-    )
-
-returns-4 : tie.Need-returns-4
-unfolding jobRefusal
-returns-4 c = let f = c .before .before .before .before .before .before .before .part-row .ensures in
-    simp (
-      sym (ap (λ (f : Found). f .answer) f),
-      sym (ap (λ (f : Found). f .row) f),
-      le-ltb _ _ (c .before .before .before .before .before .before .if1 .left),
-      eq-eqb _ _ (c .before .before .before .if2 .left),
-      sym (c .before .before .is-interval .ensures) ∙ not-false _ (c .before .if3 .left),
-    ) (c .range-refusal .ensures)
+returns-3 c = let f = c .before .before .before .before .before .part-row .ensures in simp (sym (ap (λ (f : Found). f .answer) f), sym (ap (λ (f : Found). f .row) f), le-ltb _ _ (c .before .before .before .before .if1 .left), eq-eqb _ _ (c .before .if2 .left)) (c .request-refusal .ensures)
 
 pub job-refusal-spec : {M : Type 1} → statement M
 job-refusal-spec =
     tie.close
-    (tie.spec
-    (λ c κs. search needs)
-    returns
-    (λ c. search needs)
-    returns-2
-    (λ c κs. search needs)
-    returns-3
-    (λ c κs. search needs)
-    returns-4)
+    (tie.spec (λ c κs. search needs) returns (λ c. search needs) returns-2 (λ c κs. search needs) returns-3)

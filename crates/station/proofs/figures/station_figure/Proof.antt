@@ -1,7 +1,7 @@
 -- `station::figures::station_figure` meets its contract.
 use mathlib.Core.Path.{ap}
 use borrow.Author.Needs.{needs}
-use Rattle.parts.specs.declared.figure.Figure.{Figure}
+use Rattle.table.specs.declared.figure.Figure.{Figure}
 use Rattle.station.proofs.figures.station_figure.Statement.{statement}
 use Rattle.station.proofs.figures.station_figure.Tie as tie
 

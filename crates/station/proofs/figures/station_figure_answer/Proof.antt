@@ -1,7 +1,7 @@
 -- `station::figures::station_figure_answer` meets its contract.
 use mathlib.Core.Path.{ap}
 use borrow.Author.Needs.{needs}
-use Rattle.parts.specs.declared.figure.Figure.{Figure}
+use Rattle.table.specs.declared.figure.Figure.{Figure}
 use Rattle.station.proofs.figures.station_figure_answer.Statement.{statement}
 use Rattle.station.proofs.figures.station_figure_answer.Tie as tie
 

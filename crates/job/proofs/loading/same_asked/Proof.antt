@@ -1,0 +1,30 @@
+-- `job::loading::same_asked` meets its contract.
+use mathlib.Core.Path.{sym}
+use borrow.Author.Tests.{eq-eqb, ne-eqb}
+use Rattle.job.specs.Loading.{sameAsked}
+use Rattle.job.proofs.InRange.{asked-same}
+use Rattle.job.proofs.loading.same_asked.Statement.{statement}
+use Rattle.job.proofs.loading.same_asked.Tie as tie
+
+returns : tie.Need-returns
+unfolding sameAsked
+returns c = simp (ne-eqb _ _ (c .if1 .taken))
+
+returns-2 : tie.Need-returns-2
+unfolding sameAsked
+returns-2 c = simp (eq-eqb _ _ (c .before .before .before .if1 .left), ne-eqb _ _ (c .if2 .taken))
+
+returns-3 : tie.Need-returns-3
+unfolding sameAsked
+returns-3 c = simp (eq-eqb _ _ (c .before .before .before .before .before .before .if1 .left), eq-eqb _ _ (c .before .before .before .if2 .left), ne-eqb _ _ (c .if3 .taken))
+
+returns-4 : tie.Need-returns-4
+unfolding sameAsked
+returns-4 c = simp (eq-eqb _ _ (c .before .before .before .before .before .before .before .before .before .if1 .left), eq-eqb _ _ (c .before .before .before .before .before .before .if2 .left), eq-eqb _ _ (c .before .before .before .if3 .left), ne-eqb _ _ (c .if4 .taken))
+
+returns-5 : tie.Need-returns-5
+unfolding sameAsked
+returns-5 c = sym (asked-same (c .before .before .before .before .before .before .before .before .before .before .before .before .before .before .args .d) (c .before .before .before .before .before .before .before .before .before .before .before .before .before .before .args .e) (c .before .before .before .before .before .before .before .before .before .before .before .if1 .left) (c .before .before .before .before .before .before .before .before .if2 .left) (c .before .before .before .before .before .if3 .left) (c .before .before .if4 .left))
+
+pub same-asked-spec : {M : Type 1} → statement M
+same-asked-spec = tie.close (tie.spec returns returns-2 returns-3 returns-4 returns-5)

@@ -1,0 +1,20 @@
+-- `job::refusal::begin_refusal` meets its contract.
+use mathlib.Core.Path.{ap, sym, _∙_}
+use borrow.Author.Tests.{lt-ltb, le-ltb}
+use borrow.Author.Needs.{needs}
+use Rattle.parts.specs.declared.table.Found.{Found}
+use Rattle.job.specs.Refusal.{beginRefusal}
+use Rattle.job.proofs.refusal.begin_refusal.Statement.{statement}
+use Rattle.job.proofs.refusal.begin_refusal.Tie as tie
+
+returns : tie.Need-returns
+unfolding beginRefusal
+returns c = simp (sym (ap (λ (f : Found). f .answer) (c .before .part-row .ensures)), lt-ltb _ _ (c .if1 .taken))
+
+returns-2 : tie.Need-returns-2
+unfolding beginRefusal
+returns-2 c = simp (sym (ap (λ (f : Found). f .answer) (c .before .before .part-row .ensures)), sym (ap (λ (f : Found). f .row) (c .before .before .part-row .ensures)), le-ltb _ _ (c .before .if1 .left)) (c .request-refusal .ensures)
+
+pub begin-refusal-spec : {M : Type 1} → statement M
+begin-refusal-spec =
+    tie.close (tie.spec (λ c κs. search needs) returns (λ c κs. search needs) returns-2)

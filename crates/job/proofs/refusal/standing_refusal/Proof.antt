@@ -1,0 +1,44 @@
+-- `job::refusal::standing_refusal` meets its contract.
+use Prim.Native.Nat.{_+_}
+use mathlib.Core.Path.{ap, sym, _∙_}
+use native.Mathlib.Omega.{arith}
+use borrow.Author.Tests.{lt-ltb, le-ltb, not-true, not-false}
+use borrow.Author.Needs.{needs}
+use Rattle.parts.specs.declared.table.Found.{Found}
+use Rattle.job.specs.Refusal.{standingRefusal}
+use Rattle.job.proofs.Accepts.{whole-sectors}
+use Rattle.job.proofs.Billing.{none-given}
+use Rattle.job.proofs.refusal.standing_refusal.Statement.{statement}
+use Rattle.job.proofs.refusal.standing_refusal.Tie as tie
+
+returns : tie.Need-returns
+unfolding standingRefusal
+returns c = simp (sym (ap (λ (f : Found). f .answer) (c .before .part-row .ensures)), lt-ltb _ _ (c .if1 .taken))
+
+returns-2 : tie.Need-returns-2
+unfolding standingRefusal
+returns-2 c = simp (sym (ap (λ (f : Found). f .answer) (c .before .before .before .part-row .ensures)), le-ltb _ _ (c .before .before .if1 .left), sym (c .before .is-interval .ensures) ∙ not-true _ (c .if2 .taken))
+
+returns-3 : tie.Need-returns-3
+unfolding standingRefusal
+returns-3 c = let f = c .before .before .before .before .before .before .part-row .ensures in simp (sym (ap (λ (f : Found). f .answer) f), sym (ap (λ (f : Found). f .row) f), le-ltb _ _ (c .before .before .before .before .before .if1 .left), sym (c .before .before .before .before .is-interval .ensures) ∙ not-false _ (c .before .before .before .if2 .left), sym (c .before .sectors-refusal .ensures), lt-ltb _ _ (c .if3 .taken))
+
+protection-refusal-requires : tie.Need-protection-refusal-requires
+protection-refusal-requires c κs = let g = c .before .before .before .before .before .before .before .args in let s = c .before .sectors-refusal in omega (arith, whole-sectors (c .before .before .before .before .before .before .part-row .result .row) (g .first) (g .count) (none-given (s .ensures) (c .if3 .left)))
+
+returns-4 : tie.Need-returns-4
+unfolding standingRefusal
+returns-4 c = let f = c .before .before .before .before .before .before .before .part-row .ensures in simp (sym (ap (λ (f : Found). f .answer) f), sym (ap (λ (f : Found). f .row) f), le-ltb _ _ (c .before .before .before .before .before .before .if1 .left), sym (c .before .before .before .before .before .is-interval .ensures) ∙ not-false _ (c .before .before .before .before .if2 .left), sym (c .before .before .sectors-refusal .ensures), le-ltb _ _ (c .before .if3 .left)) (c .protection-refusal .ensures)
+
+pub standing-refusal-spec : {M : Type 1} → statement M
+standing-refusal-spec =
+    tie.close
+    (tie.spec
+    (λ c κs. search needs)
+    returns
+    (λ c κs. search needs)
+    returns-2
+    (λ c κs. search needs)
+    returns-3
+    protection-refusal-requires
+    returns-4)
