@@ -11,7 +11,7 @@ enum status {
 /* Says what is wrong in one line, after the program's name, and gives the status back. */
 int fault(int status, const char *form, ...);
 
-/* Says that a number of bytes cannot be had, and gives STATUS_FILE. */
+/* Says that there is not memory enough, and gives STATUS_FILE. */
 int no_memory(void);
 
 #endif

@@ -115,24 +115,21 @@ static bool is_no_file(const char *path)
 int open_output(struct output *output, const char *path)
 {
     output->path = path;
-    output->file = NULL;
-    size_t room = strlen(path) + 40;
-    output->made = (char *)malloc(room);
-    if (output->made == NULL)
-        return cannot_write(path, strerror(ENOMEM));
-    snprintf(output->made, room, "%s.%" PRIdMAX ".making", path, (intmax_t)getpid());
-    if (is_no_file(path)) {
-        free(output->made);
-        output->made = NULL;
+    if (is_no_file(path))
         return cannot_write(path, "what stands there is no file");
+    const size_t room = strlen(path) + 40;
+    char *made = (char *)malloc(room);
+    if (made == NULL)
+        return cannot_write(path, strerror(ENOMEM));
+    snprintf(made, room, "%s.%" PRIdMAX ".making", path, (intmax_t)getpid());
+    output->file = fopen(made, "wbx");
+    if (output->file == NULL) {
+        const int why = errno;
+        free(made);
+        return cannot_write(path, strerror(why));
     }
-    output->file = fopen(output->made, "wbx");
-    if (output->file != NULL)
-        return STATUS_DONE;
-    int why = errno;
-    free(output->made);
-    output->made = NULL;
-    return cannot_write(path, strerror(why));
+    output->made = made;
+    return STATUS_DONE;
 }
 
 int put_values(struct output *output, const struct values *values, uint32_t width)

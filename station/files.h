@@ -32,7 +32,7 @@ int read_values(const char *path, uint32_t width, struct values *values);
 int make_values(size_t count, struct values *values);
 void free_values(struct values *values);
 
-/* A file on its way: written beside its place, and put there when it is whole. */
+/* A file on its way: written beside its place, and put there when it is whole. It begins as NULLs. */
 struct output {
     const char *path;
     char *made; /* the name that it is written under */

@@ -60,25 +60,37 @@ static int copy(const struct values *values, struct values *made)
     return status;
 }
 
+/* Writes the cells, beside their place. */
+static int make_out(struct output *out, const char *path, const struct job *job)
+{
+    int status = open_output(out, path);
+    if (status == STATUS_DONE)
+        status = put_values(out, &job->cells, station_figure(job->part, STATION_WIDTH));
+    return status == STATUS_DONE ? end_output(out) : status;
+}
+
+/* Writes the picture, beside its place. */
+static int make_svg(struct output *svg, const char *path, const struct job *job, const struct map *map,
+                    const struct station_bill *bill)
+{
+    int status = open_output(svg, path);
+    if (status != STATUS_DONE)
+        return status;
+    put_picture(svg->file, job, map, bill);
+    return end_output(svg);
+}
+
 /* Writes the files that are asked for: each is whole before any is put in its place. */
 static int put_files(const struct asked *asked, const struct job *job, const struct map *map,
                      const struct station_bill *bill)
 {
-    struct output out = {asked->out, NULL, NULL}, svg = {asked->svg, NULL, NULL};
-    int status = asked->out == NULL ? STATUS_DONE : open_output(&out, asked->out);
-    if (status == STATUS_DONE && out.file != NULL)
-        status = put_values(&out, &job->cells, station_figure(job->part, STATION_WIDTH));
-    if (status == STATUS_DONE && out.file != NULL)
-        status = end_output(&out);
+    struct output out = {NULL, NULL, NULL}, svg = {NULL, NULL, NULL};
+    int status = asked->out == NULL ? STATUS_DONE : make_out(&out, asked->out, job);
     if (status == STATUS_DONE && asked->svg != NULL)
-        status = open_output(&svg, asked->svg);
-    if (status == STATUS_DONE && svg.file != NULL) {
-        put_picture(svg.file, job, map, bill);
-        status = end_output(&svg);
-    }
-    if (status == STATUS_DONE && out.made != NULL)
+        status = make_svg(&svg, asked->svg, job, map, bill);
+    if (status == STATUS_DONE && asked->out != NULL)
         status = place_output(&out);
-    if (status == STATUS_DONE && svg.made != NULL)
+    if (status == STATUS_DONE && asked->svg != NULL)
         status = place_output(&svg);
     free_output(&svg);
     free_output(&out);

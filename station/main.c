@@ -41,13 +41,14 @@ enum option { PART, IMAGE, CELLS, FIRST, P, WP, OUT, SVG, OPTIONS };
 
 static const char *const options[OPTIONS] = {"--part", "--image", "--cells", "--first", "--p", "--wp", "--out", "--svg"};
 
-/* Takes one option with its word; gives how many words it took, none where it is wrong. */
+/* Takes one option, with its word where it has one; gives how many words it took, none where it is wrong. */
 static int take(char **words, int left, const char **given, struct asked *asked)
 {
-    if (strcmp(words[0], "--pad") == 0)
-        return asked->pad = true;
-    if (strcmp(words[0], "--map") == 0)
-        return asked->map = true;
+    bool *flag = strcmp(words[0], "--pad") == 0 ? &asked->pad : strcmp(words[0], "--map") == 0 ? &asked->map : NULL;
+    if (flag != NULL) {
+        *flag = true;
+        return 1;
+    }
     for (int i = 0; i < OPTIONS; i++)
         if (strcmp(words[0], options[i]) == 0 && left > 1 && given[i] == NULL) {
             given[i] = words[1];

@@ -24,14 +24,12 @@ const char *part_name(uint32_t part)
     return part < NAMES ? names[part] : "no part";
 }
 
-/* Whether the first n characters are the same, capitals or not. */
+/* Whether two texts are the same in their first n characters, or to their ends; capitals or not. */
 static bool same(const char *text, const char *other, size_t n)
 {
-    for (size_t i = 0; i < n; i++)
+    for (size_t i = 0; i < n && (text[i] != '\0' || other[i] != '\0'); i++)
         if (toupper((unsigned char)text[i]) != toupper((unsigned char)other[i]))
             return false;
-        else if (text[i] == '\0')
-            return true;
     return true;
 }
 
