@@ -3,20 +3,21 @@
    is proved to meet its promise.
 
    In the order in which a controller comes to them: the figures of a part; a command by the driver,
-   cycle by cycle, against a chip; the model, which answers cycles where no chip is; the job file,
-   the job and its bill; and single writes of a command.
+   cycle by cycle, against a chip; a whole job, so too; the model, which answers cycles where no chip
+   is; the job file, the job and its bill; and single writes of a command.
 
    Arguments and results are plain numbers. Any number may be given: what is out of place is
    answered with the number of the refusal, never by a fault. A refused call changes no cell, hands
    back a state as it came, and gives 0 for every other number. No call keeps anything: a state (of
-   a driver, of a device) is the caller's, given and handed back by value. Keep the one handed back
-   and give it to the next call.
+   a driver, of a job, of a device) is the caller's, given and handed back by value. Keep the one
+   handed back and give it to the next call.
 
    What a caller has to keep to:
    - the types as they are declared here, for an archive of the same version: nothing in it checks
      them, but tests/pages/header holds this file to the sources;
-   - a pointer is not NULL and points to as many elements as the size after it says, in memory that
-     nothing else uses during the call; what is read and what is written do not overlap;
+   - a pointer is not NULL and points to as many elements as the size after it says (seen, which has
+     none, to 4,096), in memory that nothing else uses during the call; what is read and what is
+     written do not overlap;
    - a WP# level given as a number is low for 0 and high for any other;
    - data is 16 bits wide, in C too and on eight-bit parts: a wider number has to be tested before
      it is passed, as C drops its upper bits in silence;
@@ -33,8 +34,8 @@
 extern "C" {
 #endif
 
-/* The answers: 0, or why a call is refused, or how a driver ended. docs/USING.md says what to do
-   about each. Where two apply, a call gives the one that it names first. */
+/* The answers: 0, or why a call is refused, or how a driver or a job ended. docs/USING.md says what
+   to do about each. Where two apply, a call gives the one that it names first. */
 enum station_answer {
     STATION_TAKEN = 0,
     STATION_NO_PART = 1,         /* part above 10 */
@@ -47,8 +48,8 @@ enum station_answer {
     STATION_VALUE_TOO_LARGE = 8, /* an image value above 255 on an eight-bit part */
     STATION_PROTECTED = 9,       /* WP# low, and the range holds a protected cell */
     STATION_BAD_INTERVAL = 10,   /* p is 0 or above 1,000 */
-    STATION_GAVE_UP = 11,        /* a driver's end: polling gave up */
-    STATION_DIFFERS = 12,        /* a driver's end: the confirming read differs */
+    STATION_GAVE_UP = 11,        /* an end: polling gave up */
+    STATION_DIFFERS = 12,        /* an end: the confirming read differs */
     STATION_BAD_FILE = 13,       /* job file malformed or too long */
     STATION_NO_COMMAND = 14,     /* command above 3, or a block erase of a part without blocks */
     STATION_PAST_THE_END = 15    /* column above 6, or k past the command's writes */
@@ -147,6 +148,70 @@ struct station_started station_start(uint32_t part, uint32_t command, uint32_t a
 /* The next cycle, or the end. read is the value that the last read cycle showed; any number as long
    as none was sent. A driver that has ended gives its end again. */
 struct station_stepped station_step(struct station_driver state, uint16_t read);
+
+/* ---- A whole job on a bus: station_begin once, then station_turn and the cycle that it names, until
+   it names none. It has no cells: it goes by what the bus shows. With job of station_begin:
+
+     for (t = station_turn(job, image, n, seen, 0); t.cycle.kind != STATION_NO_CYCLE;
+          t = station_turn(t.loading, image, n, seen, read)) {
+         set WP# to t.wp, wait t.cycle.elapsed microseconds, then read or write at t.cycle.address;
+         read = what a read showed;
+     } and t.answer is the job's end */
+
+/* How far a job is. */
+enum station_progress {
+    STATION_WAITING = 0,  /* no cycle named yet */
+    STATION_SCANNING = 1, /* a sector is read */
+    STATION_LOOKING = 2,  /* it stays unerased, and is read again */
+    STATION_ERASING = 3,  /* a driver erases the sector, */
+    STATION_FILLING = 4,  /* programs a cell of an erased one, */
+    STATION_BURNING = 5,  /* or of one that stays unerased */
+    STATION_OVER = 6
+};
+
+/* A job under way: what is asked, how far it is, the sector's first value in the image, the cell in
+   the sector, the driver while it drives one, and the answer of its end. */
+struct station_loading {
+    uint32_t part;
+    uint32_t first;
+    uint32_t count; /* values of the image */
+    uint32_t wp;
+    uint32_t p;
+    uint32_t progress; /* STATION_WAITING to STATION_OVER */
+    uint32_t base;
+    uint32_t at;
+    struct station_driver driver;
+    uint32_t ending;
+};
+
+/* A begin: STATION_TAKEN and a job, or the refusal and zeros. */
+struct station_begun {
+    uint32_t answer;
+    struct station_loading loading;
+};
+
+/* A turn. With a cycle: STATION_TAKEN; send it at the WP# level wp. Without one the job is over:
+   STATION_TAKEN (the range holds the image), STATION_GAVE_UP or STATION_DIFFERS; or it is refused,
+   with any other number, and loading is as it came. */
+struct station_turned {
+    uint32_t answer;
+    struct station_loading loading;
+    struct station_cycle cycle;
+    uint32_t wp; /* 0 low, 1 high */
+};
+
+/* Begins the load of the n values of an image from address first on, polled every p microseconds, at
+   a WP# level. Refused with STATION_NO_PART, STATION_BAD_INTERVAL, STATION_NOT_SECTORS,
+   STATION_PAST_CELLS, STATION_VALUE_TOO_LARGE, STATION_PROTECTED. */
+struct station_begun station_begin(uint32_t part, uint32_t first, const uint16_t *image, size_t n,
+                                   uint32_t wp, uint32_t p);
+
+/* The next cycle, or the end. image is the one that the job was begun with; seen points to 4,096
+   values, which the caller keeps from turn to turn and does not change (their first content does not
+   matter); read is the value that the last read cycle showed, any number as long as none was sent. A
+   job that is over gives its end again. */
+struct station_turned station_turn(struct station_loading loading, const uint16_t *image, size_t n,
+                                   uint16_t *seen, uint16_t read);
 
 /* ---- The model of a chip: cells and a device, which answer cycles as the chip does */
 

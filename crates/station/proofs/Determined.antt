@@ -33,6 +33,10 @@ use Rattle.station.proofs.load.station_load.Kinds as load-kinds
 use Rattle.station.proofs.load.station_load.Reads as load-reads
 use Rattle.station.proofs.load.station_load_first.Kinds as load-first-kinds
 use Rattle.station.proofs.load.station_load_first.Reads as load-first-reads
+use Rattle.station.proofs.loading.station_begin.Kinds as begin-kinds
+use Rattle.station.proofs.loading.station_begin.Reads as begin-reads
+use Rattle.station.proofs.loading.station_turn.Kinds as turn-kinds
+use Rattle.station.proofs.loading.station_turn.Reads as turn-reads
 use Rattle.station.proofs.file.station_bill.Kinds as bill-kinds
 use Rattle.station.proofs.file.station_bill.Reads as bill-reads
 use Rattle.station.proofs.figures.station_write_address.Kinds as write-address-kinds
@@ -86,6 +90,12 @@ load-unique κs a x y s t p q = (p .0 ∙ sym (q .0), p .1 ∙ sym (q .1))
 
 pub load-first-unique : UniqueLent load-first-kinds.ps load-first-kinds.r load-first-reads.Post (λ κs s. s .1 .0 .now)
 load-first-unique κs a x y s t p q = (p .0 ∙ sym (q .0), p .1 ∙ sym (q .1))
+
+pub begin-unique : Unique begin-kinds.ps begin-kinds.r begin-reads.Post
+begin-unique κs a x y s t p q = p ∙ sym q
+
+pub turn-unique : UniqueLent turn-kinds.ps turn-kinds.r turn-reads.Post (λ κs s. s .1 .1 .0 .now)
+turn-unique κs a x y s t p q = (p .0 ∙ sym (q .0), p .1 ∙ sym (q .1))
 
 pub bill-unique : Unique bill-kinds.ps bill-kinds.r bill-reads.Post
 bill-unique κs a x y s t p q = p ∙ sym q

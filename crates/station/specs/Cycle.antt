@@ -26,9 +26,9 @@ modeNumber Identification = 1
 abbrev pub modeAt : ℕ → Mode
 modeAt n = pick (eqb n 0) ReadMode Identification
 
--- what bit 6 shows
-abbrev pub toggleNumber : Bool → ℕ
-toggleNumber t = pick t 1 0
+-- what a bit shows, or a level
+abbrev pub bitNumber : Bool → ℕ
+bitNumber t = pick t 1 0
 
 abbrev pub deviceNumbers : Device → DeviceNumbers
 deviceNumbers d =
@@ -39,7 +39,7 @@ deviceNumbers d =
       address = d .core .running .address;
       «data» = d .core .running .«data»;
       left = d .core .running .left;
-      toggle = toggleNumber (d .core .running .toggle);
+      toggle = bitNumber (d .core .running .toggle);
     }
 
 -- a device out of range for every part: a stage past the seven

@@ -8,7 +8,7 @@ use chip::Reply;
 use commands::Mode;
 ghost use mathlib.Core.Path.{_≡_};
 ghost use Rattle.chip.specs.Device.{freshDevice};
-ghost use Rattle.station.specs.Cycle.{cycledOf, deviceNumbers, deviceOf, modeAt, modeNumber, noState, replyNumbers, toggleNumber};
+ghost use Rattle.station.specs.Cycle.{cycledOf, deviceNumbers, deviceOf, modeAt, modeNumber, noState, replyNumbers, bitNumber};
 
 // ---- the numbers of the modes
 const READ_MODE: u32 = 0;
@@ -58,11 +58,11 @@ fn mode_at(n: u32) -> Mode
     Mode::Identification
 }
 
-// The number of what bit 6 shows.
-fn toggle_number(toggle: bool) -> u32
-    ensures { λ r. ⌜ r ≡ toggleNumber toggle ⌝ }
+// The number of what a bit shows, or of a level.
+pub(crate) fn bit_number(bit: bool) -> u32
+    ensures { λ r. ⌜ r ≡ bitNumber bit ⌝ }
 {
-    if toggle {
+    if bit {
         return 1;
     }
     0
@@ -94,7 +94,7 @@ fn device_numbers(d: Device) -> DeviceNumbers
         address: o.address,
         data: o.data,
         left: o.left,
-        toggle: toggle_number(o.toggle),
+        toggle: bit_number(o.toggle),
     }
 }
 

@@ -24,7 +24,7 @@ const DONE: u32 = 3;
 
 const ENDED_GIVEN_UP: u32 = 4;
 
-const ENDED_DIFFERENT: u32 = 5;
+pub(crate) const ENDED_DIFFERENT: u32 = 5;
 
 // A driver as numbers.
 #[repr(C)]
@@ -100,7 +100,7 @@ fn phase_at(n: u32) -> Phase
 }
 
 // The numbers of a driver.
-fn driver_numbers(d: Driver) -> DriverNumbers
+pub(crate) fn driver_numbers(d: Driver) -> DriverNumbers
     ensures { λ r. ⌜ r ≡ driverNumbers d ⌝ }
 {
     let phase = d.phase;
@@ -116,7 +116,7 @@ fn driver_numbers(d: Driver) -> DriverNumbers
 }
 
 // The driver of some numbers.
-fn driver_of(n: DriverNumbers) -> Driver
+pub(crate) fn driver_of(n: DriverNumbers) -> Driver
     ensures { λ r. ⌜ r ≡ driverOf n ⌝ }
 {
     Driver {
@@ -131,7 +131,7 @@ fn driver_of(n: DriverNumbers) -> Driver
 }
 
 // No cycle.
-fn no_cycle() -> CycleNumbers
+pub(crate) fn no_cycle() -> CycleNumbers
     ensures { λ r. ⌜ r ≡ noCycle ⌝ }
 {
     CycleNumbers {
@@ -143,7 +143,7 @@ fn no_cycle() -> CycleNumbers
 }
 
 // The numbers of a cycle that is sent: a read or a write.
-fn sent_numbers(elapsed: u32, action: Action) -> CycleNumbers
+pub(crate) fn sent_numbers(elapsed: u32, action: Action) -> CycleNumbers
     ensures { λ r. ⌜ r ≡ sentNumbers elapsed action ⌝ }
 {
     match action {
