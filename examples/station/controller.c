@@ -54,6 +54,28 @@ static struct outcome perform(const struct bus *bus, uint32_t part, uint32_t com
     return outcome;
 }
 
+/* The values in which station_turn keeps what it has read of a sector. */
+#define SEEN 4096
+
+/* One whole job: the m values of an image from address first on. WP# is at the job's level already. */
+static struct outcome load(const struct bus *bus, uint32_t part, uint32_t first, const uint16_t *image, size_t m, uint32_t wp, uint32_t p)
+{
+    struct outcome outcome = {0, 0, 0};
+    uint16_t seen[SEEN] = {0}, shown = 0;
+    const struct station_begun begun = station_begin(part, first, image, m, wp, p);
+    struct station_loading loading = begun.loading;
+    outcome.answer = begun.answer;
+    while (outcome.answer == STATION_TAKEN) {
+        const struct station_turned turn = station_turn(loading, image, m, seen, shown);
+        outcome.answer = turn.answer;
+        if (turn.cycle.kind == STATION_NO_CYCLE)
+            break;
+        loading = turn.loading;
+        shown = send(bus, &turn.cycle, &outcome);
+    }
+    return outcome;
+}
+
 /* The model as a socket: a device, its cells, and the time that was waited since the last cycle. */
 struct model {
     uint32_t part;
@@ -114,15 +136,26 @@ static void print_outcome(const struct bus *bus, const char *what, struct outcom
            outcome.micros);
 }
 
+/* The values of the jobs below. */
+#define VALUES 2048
+
 /* What the controller does on any bus. */
 static void work(const struct bus *bus)
 {
     const uint32_t part = 0, p = 10;
+    uint16_t image[VALUES];
     print_outcome(bus, "program 1234H at 5", perform(bus, part, STATION_PROGRAM, 5, 0x1234, p));
-    print_outcome(bus, "program 1235H at 5, which is not blank", perform(bus, part, STATION_PROGRAM, 5, 0x1235, p));
+    print_outcome(bus, "program 1235H over it", perform(bus, part, STATION_PROGRAM, 5, 0x1235, p));
     print_outcome(bus, "erase the sector at 5", perform(bus, part, STATION_SECTOR_ERASE, 5, 0, p));
     print_outcome(bus, "program 1235H at 5", perform(bus, part, STATION_PROGRAM, 5, 0x1235, p));
     print_outcome(bus, "program past the cells", perform(bus, part, STATION_PROGRAM, 8192, 0, p));
+    for (size_t i = 0; i < VALUES; i++)
+        image[i] = 0xffff;
+    image[5] = 0x1234;
+    print_outcome(bus, "a job with 1234H at 5", load(bus, part, 0, image, VALUES, 1, p));
+    image[5] = 0x1235;
+    print_outcome(bus, "a job with 1235H at 5", load(bus, part, 0, image, VALUES, 1, p));
+    print_outcome(bus, "a job of 2,047 values", load(bus, part, 0, image, VALUES - 1, 1, p));
 }
 
 int main(void)

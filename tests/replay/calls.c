@@ -13,6 +13,7 @@ enum size {
     IMAGE = 16384,
     FILE_BYTES = 20500,
     BENCH = 8192,
+    SEEN = 4096,
     WRITES = 6,
     NUMBERS = 24 /* of a line, and some more */
 };
@@ -352,13 +353,50 @@ static void put_bill(const struct station_bill *bill)
     put(bill->answer);
 }
 
+/* The job under way on the cells as they were, by turns over the model: whether it ends as its bill says, and leaves the same cells. */
+static bool same_by_turns(const struct held *held, uint16_t *cells, struct station_loading loading, const struct station_bill *bill)
+{
+    struct station_device device = station_fresh();
+    uint16_t seen[SEEN] = {0}, shown = 0;
+    uint64_t time = 0;
+    for (;;) {
+        const struct station_turned turn = station_turn(loading, held->image, held->count, seen, shown);
+        const struct station_cycle cycle = turn.cycle;
+        if (cycle.kind == STATION_NO_CYCLE)
+            return turn.answer == bill->answer && time == bill->spent &&
+                   memcmp(cells, held->cells, held->lent * sizeof *cells) == 0;
+        const struct station_reply reply =
+            cycle.kind == STATION_A_READ
+                ? station_read(held->part, cells, held->lent, device, cycle.elapsed, turn.wp, cycle.address)
+                : station_write(held->part, cells, held->lent, device, cycle.elapsed, turn.wp, cycle.address, cycle.data);
+        if (reply.answer != STATION_TAKEN)
+            return false;
+        loading = turn.loading;
+        device = reply.device;
+        shown = reply.value;
+        time += cycle.elapsed;
+    }
+}
+
+/* The job, and the same by turns; a line more where they differ. */
 static bool load(struct held *held, const uint64_t *n)
 {
-    const struct station_bill bill = station_load(held->part, held->cells, held->lent, (uint32_t)n[1], held->image, held->count,
-                                                  (uint32_t)n[2], (uint32_t)n[3]);
+    const uint32_t first = (uint32_t)n[1], wp = (uint32_t)n[2], p = (uint32_t)n[3];
+    uint16_t *before = (uint16_t *)malloc((held->lent + 1) * sizeof *before);
+    if (before == NULL)
+        return false;
+    memcpy(before, held->cells, held->lent * sizeof *before);
+    const struct station_bill bill = station_load(held->part, held->cells, held->lent, first, held->image, held->count, wp, p);
+    const struct station_begun begun = station_begin(held->part, first, held->image, held->count, wp, p);
     begin_line(n);
     put_bill(&bill);
-    return end_line();
+    end_line();
+    if (bill.answer != STATION_WRONG_CELLS && begun.answer != bill.answer)
+        printf("begun with %" PRIu32 "\n", begun.answer);
+    if (bill.answer == STATION_TAKEN && !same_by_turns(held, before, begun.loading, &bill))
+        printf("by turns it goes otherwise\n");
+    free(before);
+    return true;
 }
 
 static bool load_first(struct held *held, const uint64_t *n)
