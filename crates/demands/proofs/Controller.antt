@@ -6,9 +6,9 @@ use Rattle.driver.specs.Machine.{startOf, stepOf}
 use Rattle.job.specs.Bill.{Loaded, Reported, loadOf, reportOf}
 use Rattle.jobfile.specs.JobFile.{jobOf, valuesOf}
 use Rattle.billing.specs.File.{billOfFile}
-use Rattle.station.specs.Machine.{startNumbers, stepNumbers, steppedOf}
-use Rattle.station.specs.Cycle.{deviceOf, cycledNumbers}
-use Rattle.station.proofs.Back.{driver-back, device-back}
+use Rattle.numbers.specs.Machine.{startNumbers, stepNumbers, steppedOf}
+use Rattle.numbers.specs.Cycle.{deviceOf, cycledNumbers}
+use Rattle.numbers.proofs.Back.{driver-back, device-back}
 use Rattle.demands.specs.Calls.{BusCall, OnBus, onBus, busLeft, ToStart, ToStep, LoadCall, LoadFirstCall, ToLoad, toLoad, ToLoadFirst, toLoadFirst, loadLeft, loadFirstLeft, ToRead, ToReadImage}
 use Rattle.demands.specs.Controller.{StationBusCall, byRead, byWrite, byIdle, byCut, onStation, stationLeft, meant, Controller}
 use Rattle.demands.specs.Controller.{StationLoadCall, StationLoadFirstCall, stationToLoad, stationToLoadFirst, stationLoadLeft, stationLoadFirstLeft}

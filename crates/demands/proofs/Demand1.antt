@@ -36,11 +36,11 @@ use Rattle.jobfile.specs.declared.trailer.JobFile.{JobFile}
 use Rattle.jobfile.specs.JobFile.{malformed, trailerOf, refused, asked, jobOf}
 use Rattle.billing.specs.File.{billOfJob, billOfFile}
 use Rattle.demands.specs.Calls.{onBus, refusedCycle, StepCall, toStep, StartCall, StartWritingCall, ToStart, refusedStart, toStart, refusedWrites, toWrite, kthAsked, refusedJob, toLoad, toLoadFirst}
-use Rattle.station.specs.declared.machine.DriverNumbers.{DriverNumbers}
-use Rattle.station.specs.declared.machine.StartNumbers.{StartNumbers}
-use Rattle.station.specs.Machine.{phaseAt, driverNumbers, driverOf, startNumbers, steppedOf}
-use Rattle.station.specs.Cycle.{deviceOf, noState, Cycled, cycledNumbers}
-use Rattle.station.proofs.Back.{no-phase, out-of-range, bad-mode, bad-toggle, no-device, refused-numbers, taken-numbers}
+use Rattle.numbers.specs.declared.machine.DriverNumbers.{DriverNumbers}
+use Rattle.numbers.specs.declared.machine.StartNumbers.{StartNumbers}
+use Rattle.numbers.specs.Machine.{phaseAt, driverNumbers, driverOf, startNumbers, steppedOf}
+use Rattle.numbers.specs.Cycle.{deviceOf, noState, Cycled, cycledNumbers}
+use Rattle.numbers.proofs.Back.{no-phase, out-of-range, bad-mode, bad-toggle, no-device, refused-numbers, taken-numbers}
 use Rattle.demands.specs.Calls.{rowAsked, figureAsked, toRead, ToRead, toBill, jobAsked, refusedFile}
 use Rattle.demands.specs.Controller.{StationStepCall, numbersToStep, OnStation, onStation, meant, noDevice, stationToLoad, stationToLoadFirst, stationToRead, stationToBill}
 use Rattle.demands.proofs.Controller.{cycleAsked, station-left}

@@ -15,10 +15,10 @@ use Rattle.chip.specs.Cycle.{cycle}
 use Rattle.driver.specs.declared.machine.Driver.{Driver}
 use Rattle.driver.specs.Machine.{inRange}
 use Rattle.job.specs.Bill.{Loaded, Reported}
-use Rattle.station.specs.declared.machine.DriverNumbers.{DriverNumbers}
-use Rattle.station.specs.declared.cycle.DeviceNumbers.{DeviceNumbers}
-use Rattle.station.specs.Machine.{driverNumbers, driverOf, startNumbers, stepNumbers}
-use Rattle.station.specs.Cycle.{high, deviceNumbers, deviceOf, Cycled, cycledNumbers}
+use Rattle.numbers.specs.declared.machine.DriverNumbers.{DriverNumbers}
+use Rattle.numbers.specs.declared.cycle.DeviceNumbers.{DeviceNumbers}
+use Rattle.numbers.specs.Machine.{driverNumbers, driverOf, startNumbers, stepNumbers}
+use Rattle.numbers.specs.Cycle.{high, deviceNumbers, deviceOf, Cycled, cycledNumbers}
 use Rattle.station.proofs.station_start.Kinds as start-kinds
 use Rattle.station.proofs.station_start.Reads as start-reads
 use Rattle.station.proofs.station_step.Kinds as step-kinds

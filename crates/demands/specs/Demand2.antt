@@ -27,9 +27,9 @@ use Rattle.driver.specs.Machine.{valueWanted, begun, moved, ended, stepOf}
 use Rattle.driver.specs.Talk.{Stepping, writeCycles, operationCycles, operationOf, completed, shownAfter, Told, told, talk, heard}
 use Rattle.driver.specs.Endings.{MustRaise, MustRaiseSeven, Ended, Meaning}
 use Rattle.demands.specs.Calls.{BusCall, onBus, busLeft, refusedCycle, WritesCall, toWrite, refusedWrites, StartCall, ToStart, toStart, refusedStart, StepCall, toStep, AsPromised}
-use Rattle.station.specs.Machine.{driverOf, steppedOf}
-use Rattle.station.specs.Cycle.{high, deviceNumbers}
-use Rattle.station.specs.Loop.{toldNumbers, loop, heardNumbers, loopHearing}
+use Rattle.numbers.specs.Machine.{driverOf, steppedOf}
+use Rattle.numbers.specs.Cycle.{high, deviceNumbers}
+use Rattle.numbers.specs.Loop.{toldNumbers, loop, heardNumbers, loopHearing}
 use Rattle.demands.specs.Controller.{StationBusCall, onStation, stationLeft, meant, StationStartCall}
 
 -- a chip of the part's number of cells that is idle, at a WP# level that does not protect what the command is aimed at

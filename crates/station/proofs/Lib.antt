@@ -1,3 +1,1 @@
-pub mod Loop
-pub mod Back
 pub mod Determined

@@ -1,178 +1,17 @@
 // The bus cycle: the device crosses as plain numbers, and any numbers may be given.
 use chip::Action;
-use chip::Core;
-use chip::Cycle;
-use chip::Device;
-use chip::Operation;
-use chip::Reply;
-use commands::Mode;
+use numbers::DeviceNumbers;
+use numbers::ReplyNumbers;
 ghost use mathlib.Core.Path.{_≡_};
 ghost use Rattle.chip.specs.Device.{freshDevice};
-ghost use Rattle.station.specs.Cycle.{cycledOf, deviceNumbers, deviceOf, modeAt, modeNumber, noState, replyNumbers, bitNumber};
-
-// ---- the numbers of the modes
-const READ_MODE: u32 = 0;
-
-const IDENTIFICATION: u32 = 1;
-
-// A stage past the seven of a write sequence.
-const NO_STAGE: u32 = 7;
-
-// A device as numbers: mode 0 read, 1 identification; toggle 0 or 1.
-#[repr(C)]
-pub struct DeviceNumbers {
-    pub mode: u32,
-    pub stage: u32,
-    pub kind: u32,
-    pub address: u32,
-    pub data: u16,
-    pub left: u32,
-    pub toggle: u32,
-}
-
-// The answer, 0 or a refusal; the value read; the device afterwards.
-#[repr(C)]
-pub struct ReplyNumbers {
-    pub answer: u32,
-    pub value: u16,
-    pub device: DeviceNumbers,
-}
-
-// The number of a mode.
-fn mode_number(mode: Mode) -> u32
-    ensures { λ r. ⌜ r ≡ modeNumber mode ⌝ }
-{
-    match mode {
-        Mode::ReadMode => READ_MODE,
-        Mode::Identification => IDENTIFICATION,
-    }
-}
-
-// The mode of a number.
-fn mode_at(n: u32) -> Mode
-    ensures { λ r. ⌜ r ≡ modeAt n ⌝ }
-{
-    if n == READ_MODE {
-        return Mode::ReadMode;
-    }
-    Mode::Identification
-}
-
-// The number of what a bit shows, or of a level.
-pub(crate) fn bit_number(bit: bool) -> u32
-    ensures { λ r. ⌜ r ≡ bitNumber bit ⌝ }
-{
-    if bit {
-        return 1;
-    }
-    0
-}
-
-// A device out of range for every part.
-fn no_state() -> Device
-    ensures { λ r. ⌜ r ≡ noState ⌝ }
-{
-    let fresh = chip::fresh();
-    let core = fresh.core;
-    Device {
-        core,
-        stage: NO_STAGE,
-    }
-}
-
-// The numbers of a device.
-fn device_numbers(d: Device) -> DeviceNumbers
-    ensures { λ r. ⌜ r ≡ deviceNumbers d ⌝ }
-{
-    let core = d.core;
-    let mode = core.mode;
-    let o = core.running;
-    DeviceNumbers {
-        mode: mode_number(mode),
-        stage: d.stage,
-        kind: o.kind,
-        address: o.address,
-        data: o.data,
-        left: o.left,
-        toggle: bit_number(o.toggle),
-    }
-}
-
-// The device of some numbers.
-fn device_of(n: DeviceNumbers) -> Device
-    ensures { λ r. ⌜ r ≡ deviceOf n ⌝ }
-{
-    let mode = n.mode;
-    let toggle = n.toggle;
-    if IDENTIFICATION < mode {
-        return no_state();
-    }
-    if 1 < toggle {
-        return no_state();
-    }
-    let running = Operation {
-        kind: n.kind,
-        address: n.address,
-        left: n.left,
-        data: n.data,
-        toggle: toggle == 1,
-    };
-    let core = Core {
-        mode: mode_at(mode),
-        running,
-    };
-    Device {
-        core,
-        stage: n.stage,
-    }
-}
-
-// The numbers of a reply: a refused cycle hands back the numbers as they came.
-fn reply_numbers(given: DeviceNumbers, r: Reply) -> ReplyNumbers
-    ensures { λ x. ⌜ x ≡ replyNumbers given r ⌝ }
-{
-    let answer = r.answer;
-    let d = r.device;
-    if 0 < answer {
-        return ReplyNumbers {
-            answer,
-            value: r.value,
-            device: given,
-        };
-    }
-    ReplyNumbers {
-        answer: 0,
-        value: r.value,
-        device: device_numbers(d),
-    }
-}
-
-// One bus cycle on lent cells.
-fn cycled(
-    part: u32,
-    cells: &mut [u16],
-    device: DeviceNumbers,
-    elapsed: u32,
-    wp: u32,
-    action: Action,
-) -> ReplyNumbers
-    ensures { λ r. ⌜ (r ≡ cycledOf part (now (cells .entry)) device elapsed wp action .reply) × (now (cells .exit) ≡ cycledOf part (now (cells .entry)) device elapsed wp action .cells) ⌝ }
-{
-    let d = device_of(device);
-    let cycle = Cycle {
-        elapsed,
-        wp: 0 < wp,
-        action,
-    };
-    reply_numbers(device, chip::bus_cycle(part, cells, d, cycle))
-}
+ghost use Rattle.numbers.specs.Cycle.{cycledOf, deviceNumbers};
 
 // A fresh device.
 #[no_mangle]
 pub extern "C" fn station_fresh() -> DeviceNumbers
     ensures { λ r. ⌜ r ≡ deviceNumbers freshDevice ⌝ }
 {
-    device_numbers(chip::fresh())
+    numbers::device_numbers(chip::fresh())
 }
 
 // A read: refusals 1, 2, 5, 3.
@@ -187,7 +26,7 @@ pub extern "C" fn station_read(
 ) -> ReplyNumbers
     ensures { λ r. ⌜ (r ≡ cycledOf part (now (cells .entry)) device elapsed wp (Action.Read address) .reply) × (now (cells .exit) ≡ cycledOf part (now (cells .entry)) device elapsed wp (Action.Read address) .cells) ⌝ }
 {
-    cycled(part, cells, device, elapsed, wp, Action::Read(address))
+    numbers::cycled(part, cells, device, elapsed, wp, Action::Read(address))
 }
 
 // A write: refusals 1, 2, 5, 3, 4.
@@ -204,7 +43,7 @@ pub extern "C" fn station_write(
     ensures { λ r. ⌜ (r ≡ cycledOf part (now (cells .entry)) device elapsed wp (Action.Write address «data») .reply) × (now (cells .exit) ≡ cycledOf part (now (cells .entry)) device elapsed wp (Action.Write address «data») .cells) ⌝ }
 {
     let action = Action::Write(address, data);
-    cycled(part, cells, device, elapsed, wp, action)
+    numbers::cycled(part, cells, device, elapsed, wp, action)
 }
 
 // An idle cycle: refusals 1, 2, 5.
@@ -218,7 +57,7 @@ pub extern "C" fn station_idle(
 ) -> ReplyNumbers
     ensures { λ r. ⌜ (r ≡ cycledOf part (now (cells .entry)) device elapsed wp Action.Idle .reply) × (now (cells .exit) ≡ cycledOf part (now (cells .entry)) device elapsed wp Action.Idle .cells) ⌝ }
 {
-    cycled(part, cells, device, elapsed, wp, Action::Idle)
+    numbers::cycled(part, cells, device, elapsed, wp, Action::Idle)
 }
 
 // A power cut with a scar: refusals 1, 2, 5.
@@ -233,5 +72,5 @@ pub extern "C" fn station_cut(
 ) -> ReplyNumbers
     ensures { λ r. ⌜ (r ≡ cycledOf part (now (cells .entry)) device elapsed wp (Action.Cut scar) .reply) × (now (cells .exit) ≡ cycledOf part (now (cells .entry)) device elapsed wp (Action.Cut scar) .cells) ⌝ }
 {
-    cycled(part, cells, device, elapsed, wp, Action::Cut(scar))
+    numbers::cycled(part, cells, device, elapsed, wp, Action::Cut(scar))
 }

@@ -1,0 +1,152 @@
+-- States cross to C and back: the numbers of a state are read as that state, and a refused call hands back the numbers as they came.
+use Prim.Native.Nat.{ℕ, zero, suc, _<_, _≤_}
+use mathlib.Core.Path.{_≡_, refl, ap}
+use mathlib.Core.Bool.{Bool, true, false}
+use mathlib.Core.List.{List}
+use native.Mathlib.Omega.{arith}
+use lib.Dec.{eqb, ltb}
+use lib.ListN.{length}
+use borrow.Author.Tests.{eq-eqb, ne-eqb, lt-ltb, le-ltb}
+use Rattle.parts.specs.Names.{WRONG-CELLS, BAD-STATE}
+use Rattle.parts.specs.Pick.{_unless_, _else_, _orElse_}
+use Rattle.parts.specs.Width.{valueOf}
+use Rattle.parts.specs.Table.{rowOf, partRefusal}
+use Rattle.parts.specs.declared.table.Row.{Row}
+use Rattle.parts.proofs.Every.{split}
+use Rattle.commands.specs.declared.effect.Mode.{Mode}
+use Rattle.commands.specs.declared.effect.Mode.the-variants.{ReadMode, Identification}
+use Rattle.chip.specs.declared.device.Device.{Device}
+use Rattle.chip.specs.declared.cycle.Action.{Action}
+use Rattle.chip.specs.Device.{operation, core, device, stageInRange, deviceInRange}
+use Rattle.chip.specs.declared.cycle.Cycle.{Cycle}
+use Rattle.chip.specs.Cycle.{chip, afterTime, acceptedOf, cycleOf, cycleRefusal}
+use Rattle.chip.proofs.Cases.{acted-answers}
+use Rattle.driver.specs.declared.machine.Phase.{Phase}
+use Rattle.driver.specs.declared.machine.Phase.the-variants.{Writing, Polling, Confirming, Done, GaveUp, Differs}
+use Rattle.driver.specs.declared.machine.Driver.{Driver}
+use Rattle.driver.specs.declared.machine.Step.{Step}
+use Rattle.driver.specs.Machine.{driver, inRange, valueWanted, ended, matches, mostPolls, polls, writingOf, pollingOf, confirmingOf, phaseOf, stepOf}
+use Rattle.numbers.specs.declared.machine.DriverNumbers.{DriverNumbers}
+use Rattle.numbers.specs.declared.cycle.DeviceNumbers.{DeviceNumbers}
+use Rattle.numbers.specs.Machine.{phaseNumber, phaseAt, driverNumbers, driverOf, nextNumbers, nextOf, stepNumbers, noDriverState, steppedOf}
+use Rattle.numbers.specs.Cycle.{deviceNumbers, deviceOf, noState, replyNumbers, cycledNumbers}
+
+-- ---- the driver
+phase-back : (f : Phase) → phaseAt (phaseNumber f) ≡ f
+unfolding phaseAt
+phase-back Writing = refl
+phase-back Polling = refl
+phase-back Confirming = refl
+phase-back Done = refl
+phase-back GaveUp = refl
+phase-back Differs = refl
+
+-- the numbers of a driver are read as that driver
+pub driver-back : (d : Driver) → driverOf (driverNumbers d) ≡ d
+driver-back d = ap (λ (f : Phase). driver (d .part) (d .command) (d .address) (d .«data») (d .p) f (d .count)) (phase-back (d .phase))
+
+phase-known : (f : Phase) → ltb 5 (phaseNumber f) ≡ false
+phase-known Writing = refl
+phase-known Polling = refl
+phase-known Confirming = refl
+phase-known Done = refl
+phase-known GaveUp = refl
+phase-known Differs = refl
+
+-- a step on the numbers of a driver is the numbers of its step
+pub step-of-driver : (d : Driver) (read : ℕ) → steppedOf (driverNumbers d) read ≡ stepNumbers (stepOf d read)
+unfolding steppedOf
+step-of-driver d read = simp (phase-known (d .phase), driver-back d)
+
+number-back : (k : ℕ) → k ≤ 5 → phaseNumber (phaseAt k) ≡ k
+unfolding phaseAt
+number-back zero h = refl
+number-back (suc zero) h = refl
+number-back (suc (suc zero)) h = refl
+number-back (suc (suc (suc zero))) h = refl
+number-back (suc (suc (suc (suc zero)))) h = refl
+number-back (suc (suc (suc (suc (suc zero))))) h = refl
+number-back (suc (suc (suc (suc (suc (suc k)))))) h = absurd (omega arith)
+
+-- numbers with a phase are those of the driver that they are read as
+pub numbers-back : (n : DriverNumbers) → n .phase ≤ 5 → driverNumbers (driverOf n) ≡ n
+numbers-back n h =
+    ap (λ (f : ℕ). numbers (n .part) (n .command) (n .address) (n .«data») (n .p) f (n .count)) (number-back (n .phase) h)
+  where
+    numbers : ℕ → ℕ → ℕ → ℕ → ℕ → ℕ → ℕ → DriverNumbers
+    numbers a b c d e f g = record { part = a; command = b; address = c; «data» = d; p = e; phase = f; count = g }
+
+-- numbers that are no state in range: 5, no cycle, no polls, and the numbers as they came
+pub no-phase : (n : DriverNumbers) (read : ℕ) → 5 < n .phase → steppedOf n read ≡ noDriverState n
+unfolding steppedOf
+no-phase n read h = simp (lt-ltb _ _ h)
+
+pub out-of-range : (n : DriverNumbers) (read : ℕ) → n .phase ≤ 5 → inRange (driverOf n) ≡ false → steppedOf n read ≡ noDriverState n
+unfolding steppedOf stepOf
+out-of-range n read h e = simp (le-ltb _ _ h, e, numbers-back n h)
+
+-- ---- the cycle that a step names: it sends nothing but reads and writes, so its numbers tell which
+abbrev pub NextBack : Step → Type 0
+NextBack s = nextOf (nextNumbers (s .next)) ≡ s .next
+
+phases-name : (r : Row) (f : Phase) (d : Driver) (read : ℕ) → NextBack (phaseOf r f d read)
+unfolding nextOf writingOf pollingOf confirmingOf
+phases-name r Writing d read = refl
+phases-name r Polling d read =
+    split NextBack (matches d read) _ _ (λ _. refl)
+    (λ _. split NextBack (ltb (d .count) (mostPolls r (d .command) (d .p))) (polls d) (ended d GaveUp) (λ _. refl) (λ _. refl))
+phases-name r Confirming d read =
+    split NextBack (eqb (valueOf (r .width) read) (valueWanted r (d .command) (d .«data»))) (ended d Done) (ended d Differs) (λ _. refl) (λ _. refl)
+phases-name r Done d read = refl
+phases-name r GaveUp d read = refl
+phases-name r Differs d read = refl
+
+pub next-back : (d : Driver) (read : ℕ) → NextBack (stepOf d read)
+unfolding nextOf stepOf
+next-back d read = split NextBack (inRange d) _ _ (λ _. phases-name (rowOf (d .part)) (d .phase) d read) (λ _. refl)
+
+-- ---- the device
+device-mode : (m : Mode) (k a x l : ℕ) (t : Bool) (s : ℕ)
+    → deviceOf (deviceNumbers (device (core m (operation k a x l t)) s)) ≡ device (core m (operation k a x l t)) s
+unfolding deviceOf
+device-mode ReadMode k a x l true s = refl
+device-mode ReadMode k a x l false s = refl
+device-mode Identification k a x l true s = refl
+device-mode Identification k a x l false s = refl
+
+-- the numbers of a device are read as that device
+pub device-back : (d : Device) → deviceOf (deviceNumbers d) ≡ d
+device-back d =
+    let o = d .core .running in
+    device-mode (d .core .mode) (o .kind) (o .address) (o .«data») (o .left) (o .toggle) (d .stage)
+
+-- a mode or a toggle above 1 is no state
+pub bad-mode : (n : DeviceNumbers) → 1 < n .mode → deviceOf n ≡ noState
+unfolding deviceOf
+bad-mode n h = simp (lt-ltb _ _ h)
+
+pub bad-toggle : (n : DeviceNumbers) → n .mode ≤ 1 → 1 < n .toggle → deviceOf n ≡ noState
+unfolding deviceOf
+bad-toggle n m h = simp (le-ltb _ _ m, lt-ltb _ _ h)
+
+-- numbers that are no state: 1 and 2 come first, then 5
+pub no-device : (part lent : ℕ) (n : DeviceNumbers) (a : Action) → deviceOf n ≡ noState
+    → cycleRefusal part lent (deviceOf n) a ≡ (partRefusal part orElse WRONG-CELLS unless eqb lent (rowOf part .cells) else BAD-STATE)
+unfolding cycleRefusal deviceInRange stageInRange
+no-device part lent n a h = simp h
+
+-- ---- a cycle on the device that the numbers mean
+module _ (part : ℕ) (cells : List ℕ) (n : DeviceNumbers) (c : Cycle) where
+  -- refused: its number, value 0, the numbers as they came, and no cell changed
+  pub refused-numbers : (k : ℕ) → 0 < k → cycleRefusal part (length cells) (deviceOf n) (c .action) ≡ k
+      → cycledNumbers n (cycleOf part cells (deviceOf n) c) ≡ record { cells = cells; reply = record { answer = k; value = 0; device = n } }
+  unfolding replyNumbers cycleOf
+  refused-numbers k h r = simp (r, ne-eqb k 0 (λ z. omega arith), lt-ltb 0 k h)
+
+  -- not refused: 0, and the numbers of the device that it leaves
+  pub taken-numbers : cycleRefusal part (length cells) (deviceOf n) (c .action) ≡ 0 → let o = acceptedOf (rowOf part) cells (deviceOf n) c in
+      cycledNumbers n (cycleOf part cells (deviceOf n) c)
+      ≡ record { cells = o .cells; reply = record { answer = 0; value = o .reply .value; device = deviceNumbers (o .reply .device) } }
+  unfolding replyNumbers cycleOf acceptedOf
+  taken-numbers z =
+      rw (eq-eqb (cycleRefusal part (length cells) (deviceOf n) (c .action)) 0 z, acted-answers (rowOf part) (afterTime (rowOf part) (chip cells (deviceOf n)) (c .elapsed)) (c .wp) (c .action))

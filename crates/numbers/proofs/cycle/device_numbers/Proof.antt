@@ -1,0 +1,10 @@
+-- `numbers::cycle::device_numbers` meets its contract.
+use borrow.Author.Needs.{needs}
+use Rattle.numbers.proofs.cycle.device_numbers.Statement.{statement}
+use Rattle.numbers.proofs.cycle.device_numbers.Tie as tie
+
+returns : tie.Need-returns
+returns c = simp (c .before .mode-number .ensures, c .bit-number .ensures)
+
+pub device-numbers-spec : {M : Type 1} → statement M
+device-numbers-spec = tie.close (tie.spec (λ c κs. search needs) (λ c κs. search needs) returns)

@@ -1,0 +1,23 @@
+-- `numbers::cycle::device_of` meets its contract.
+use Rattle.numbers.specs.Cycle.{deviceOf}
+use Rattle.parts.proofs.Rules.{tests}
+use borrow.Author.Needs.{needs}
+use Rattle.numbers.proofs.cycle.device_of.Statement.{statement}
+use Rattle.numbers.proofs.cycle.device_of.Tie as tie
+
+returns : tie.Need-returns
+unfolding deviceOf
+returns c = simp (c .no-state .ensures) (search tests)
+
+returns-2 : tie.Need-returns-2
+unfolding deviceOf
+returns-2 c = simp (c .no-state2 .ensures) (search tests)
+
+returns-3 : tie.Need-returns-3
+unfolding deviceOf
+returns-3 c = simp (c .mode-at .ensures) (search tests)
+
+pub device-of-spec : {M : Type 1} → statement M
+device-of-spec =
+    tie.close
+    (tie.spec (λ c κs. search needs) returns (λ c κs. search needs) returns-2 (λ c κs. search needs) returns-3)

@@ -1,0 +1,12 @@
+-- `numbers::cycle::no_state` meets its contract.
+use Rattle.chip.specs.declared.device.Device.{Device}
+use mathlib.Core.Path.{ap}
+use borrow.Author.Needs.{needs}
+use Rattle.numbers.proofs.cycle.no_state.Statement.{statement}
+use Rattle.numbers.proofs.cycle.no_state.Tie as tie
+
+returns : tie.Need-returns
+returns c = simp (ap (λ (d : Device). d .core) (c .before .fresh .ensures))
+
+pub no-state-spec : {M : Type 1} → statement M
+no-state-spec = tie.close (tie.spec (λ c κs. search needs) returns)
