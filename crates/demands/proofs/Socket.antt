@@ -47,9 +47,9 @@ beginning : (c : BeginCall) → let g = toBegin c in refusedBegin g ≡ 0
 unfolding beginLoad
 beginning c z = c .promise ∙ rw z
 
-out-of : {g : Loading} {image seen : List ℕ} {read : ℕ} → loadingInRange g image ≡ false → loadTurnOf g image seen read ≡ loadTurned seen (loadTurn 5 g SendsNothing)
+out-of : (g : Loading) (image seen : List ℕ) (read : ℕ) → loadingInRange g image ≡ false → loadTurnOf g image seen read ≡ loadTurned seen (loadTurn 5 g SendsNothing)
 unfolding loadTurnOf
-out-of e = rw e
+out-of g image seen read e = rw e
 
 -- a turn that refuses
 turn-refusing : (c : TurnCall) → let g = toTurn c in isEnding (c .back .answer) ≡ false → turnLeft c ≡ loadTurned (g .seen) (loadTurn (c .back .answer) (g .loading) SendsNothing)
@@ -72,7 +72,7 @@ socket =
       zero-refused = λ c e. let g = toTurn c in
           left-is c ∙ (ap (λ (l : Loading). loadTurnOf l (g .image) (g .seen) (g .read)) e ∙ none-begun (g .image) (g .seen) (g .read));
       begin-given = beginning;
-      out-of-range = λ c e. left-is c ∙ out-of e;
+      out-of-range = λ c e. let g = toTurn c in left-is c ∙ out-of (g .loading) (g .image) (g .seen) (g .read) e;
       turn-refuses = turn-refusing;
       sends-first = λ c accepted k cells whole seen long read n. let g = toBegin c in
           let T = turns (g .image) k in
