@@ -31,7 +31,8 @@ use Rattle.job.specs.declared.search.Decision.the-variants.{NoErase, Sec
 use Rattle.job.specs.Search.{decisionOf}
 use Rattle.job.specs.Refusal.{standingRefusal}
 use Rattle.job.specs.Loader.{Turned, turned, placeOf, readsCell, lookOf, beginOf, carryOut, burnOf, decideOf, drivenOf, seenOf, scannedOf, stageOf, inJob, turnOf}
-use Rattle.job.specs.Loading.{loading, isEnding, loaderInRange, progressInRange, jobIn, loadingInRange, loadTurn, stopsWith, taken, LoadTurned, loadTurned, takes, firstTurn, progressOf, loadTurnOf}
+use Rattle.job.specs.Loading.{loading, isEnding, loaderInRange, progressInRange, jobIn, loadingInRange}
+use Rattle.job.specs.Loading.{loadTurn, stopsWith, taken, LoadTurned, loadTurned, takes, firstTurn, progressOf, loadTurnOf}
 use Rattle.job.proofs.InJob.{in-sector}
 use Rattle.job.proofs.AcceptedJob.{erase-begins}
 use Rattle.job.proofs.Accepts.{Standing, standing}

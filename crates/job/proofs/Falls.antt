@@ -220,7 +220,8 @@ module _ (j : Job) (image : List ℕ) (R : AcceptedJob j image) where
           → Fine (left d + onward) (goesOn j task base i (stepOf d read .driver) e a)
       goes-fine d read e a v s q =
           let u = stepOf d read .driver in
-          let w : sameAsked u (askedFor j image task base i) ≡ true = ap (λ (u : Driver). sameAsked u (askedFor j image task base i)) (asks-on d read) ∙ (moved-asks d _ _ (askedFor j image task base i) ∙ s) in
+          let o = askedFor j image task base i in
+          let w : sameAsked u o ≡ true = ap (λ (u : Driver). sameAsked u o) (asks-on d read) ∙ (moved-asks d _ _ o ∙ s) in
           let f : leftFrom (Send e a) u ≤ left d = rw q at (falls d read) in
           (in-order (Driving task u) base i inside aligned there w (keeps d read v), (omega (arith, f), (refl, names-allowed d read e a s q)))
 
@@ -257,8 +258,9 @@ module _ (j : Job) (image : List ℕ) (R : AcceptedJob j image) where
     fill-fine : (i : ℕ) → Fine ((j .size - i) * P + beyond) (fillOf j image base i)
     unfolding fillOf
     fill-fine i =
-        split (Fine ((j .size - i) * P + beyond)) (ltb (nextMark j image base i) (j .size)) (beginOf j Filling base (nextMark j image base i) 0 (imageAt (nextMark j image base i))) (nextSector j (base + j .size))
-        (λ t. marks (nextMark j image base i) (ltb-true (nextMark j image base i) (j .size) t) (omega arith))
+        let k = nextMark j image base i in
+        split (Fine ((j .size - i) * P + beyond)) (ltb k (j .size)) (beginOf j Filling base k 0 (imageAt k)) (nextSector j (base + j .size))
+        (λ t. marks k (ltb-true k (j .size) t) (omega arith))
         (λ _. fine-more beyond _ (nextSector j (base + j .size)) (omega arith) then-next)
       where
         marks : (k : ℕ) → k < j .size → i ≤ k → Fine ((j .size - i) * P + beyond) (beginOf j Filling base k 0 (imageAt k))

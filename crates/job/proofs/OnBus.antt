@@ -141,7 +141,8 @@ module _ (part first : ℕ) (image : List ℕ) (wp : Bool) (p : ℕ) (begun : be
   -- Whatever is replied, it has ended after so many cycles.
   pub ends-whatever : (f : ℕ → ℕ) (seen : List ℕ) (read n : ℕ) → cyclesMost j ≤ n → HasEnded T j image (loadHeard T f n (T (beginLoad part first image wp p .loading) seen read))
   ends-whatever f seen read n h =
-      let c : Closed (cyclesMost j) n (loadHeard T f n (shown (turned seen (nextSector j 0)))) = heard-closed n f (cyclesMost j) seen (nextSector j 0) (rw most-is at (next-fine j image R 0 (zero-mod (j .size)))) in
+      let s = nextSector j 0 in
+      let c : Closed (cyclesMost j) n (loadHeard T f n (shown (turned seen s))) = heard-closed n f (cyclesMost j) seen s (rw most-is at (next-fine j image R 0 (zero-mod (j .size)))) in
       rw (first-turn seen read)
       (record { names-nothing = c .names-nothing h; numbered = c .numbered h; cycles-few = c .few; allowed = c .allowed; repeated = c .repeated h })
 
@@ -225,6 +226,8 @@ module _ (part first : ℕ) (image : List ℕ) (wp : Bool) (p : ℕ) (begun : be
         let all : take n (sentOf j image cells) ≡ sentOf j image cells = take-all n (sentOf j image cells) few in
         record {
           sends = sends-first n ∙ all;
-          leaves = rw (not-refused part first image wp p begun (length cells) whole) (ap (λ (h : Chip). h .cells) (leaves-played n) ∙ ap (λ (L : List Sent). playOf part (world cells noneSent) L .cells) all);
+          leaves =
+              rw (not-refused part first image wp p begun (length cells) whole)
+              (ap (λ (h : Chip). h .cells) (leaves-played n) ∙ ap (λ (L : List Sent). playOf part (world cells noneSent) L .cells) all);
           ends = ap (λ (t : LoadTold). t .last .turn) (begins-talk n) ∙ (ap (taken (state Waiting)) (the-rest n .1 .1 .1 few) ∙ stops Waiting 0 refl);
         }
