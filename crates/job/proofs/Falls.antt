@@ -1,14 +1,13 @@
 -- Whatever is replied, a turn of a loader in range names a cycle that leaves it in range and nearer to its end, or it ends with 0, 11 or 12.
-use Prim.Native.Nat.{ℕ, zero, suc, _+_, _-_, _*_, _/_, _%_, _≤_, _<_}
+use Prim.Native.Nat.{ℕ, suc, _+_, _-_, _*_, _/_, _%_, _≤_, _<_}
 use mathlib.Core.Path.{_≡_, refl, sym, ap, _∙_}
 use mathlib.Core.Bool.{Bool, true, false}
 use mathlib.Core.List.{List}
-use native.Mathlib.Nat.{le-refl, le-trans, suc-mul, mul-add, add-mod-right, mul-le-mul-right, div-add-mod', add-div-right}
+use native.Mathlib.Nat.{le-trans, suc-mul, mul-add, add-mod-right, mul-le-mul-right, div-add-mod', add-div-right}
 use native.Mathlib.Omega.{arith}
-use borrow.Author.Tests.{leb-true, leb-false, ltb-true, ltb-false, eqb-true, eq-eqb}
+use borrow.Author.Tests.{leb-true, leb-false, ltb-true, eqb-true, eq-eqb}
 use lib.Dec.{eqb, ltb, leb}
-use lib.ListN.{length, getD, take, drop}
-use Rattle.parts.specs.Width.{sectorSize, blankOf}
+use lib.ListN.{getD, take, drop}
 use Rattle.parts.specs.Table.{rowOf}
 use Rattle.parts.proofs.Every.{both, split}
 use Rattle.parts.proofs.Ranges.{sector-some}
@@ -37,7 +36,7 @@ use Rattle.job.specs.declared.loader.Turn.the-variants.{Play, Stop}
 use Rattle.job.specs.declared.search.Decision.{Decision}
 use Rattle.job.specs.declared.search.Decision.the-variants.{NoErase, SectorErase}
 use Rattle.job.specs.Search.{decisionOf}
-use Rattle.job.specs.Loader.{Turned, loader, placeOf, readsCell, nextSector, lookOf, goesOn, firstStep, beginOf, nextMark, fillOf, burnOf, carryOut, decideOf, afterwards, drivenOf, seenOf}
+use Rattle.job.specs.Loader.{loader, placeOf, readsCell, nextSector, lookOf, goesOn, firstStep, beginOf, nextMark, fillOf, burnOf, carryOut, decideOf, afterwards, drivenOf, seenOf}
 use Rattle.job.specs.Loader.{scannedOf, stageOf, turnOf}
 use Rattle.job.specs.Socket.{Allowed, reads, programs, erases}
 use Rattle.job.specs.Loading.{isEnding, askedFor, sameAsked, stageInRange, loaderInRange}

@@ -1,8 +1,8 @@
 -- The exported loader on a bus, once begun: against the model of the chip it sends the one list and leaves what the job leaves; against any replies it ends.
-use Prim.Native.Nat.{ℕ, zero, suc, zero-le, suc-le-suc, _+_, _-_, _*_, _/_, _≤_, _<_}
+use Prim.Native.Nat.{ℕ, zero, suc, zero-le, suc-le-suc, _+_, _-_, _*_, _/_, _≤_}
 use mathlib.Core.Path.{_≡_, refl, sym, ap, _∙_}
 use mathlib.Core.Bool.{Bool, true}
-use mathlib.Core.List.{List, [], _∷_}
+use mathlib.Core.List.{List, []}
 use native.Mathlib.Nat.{le-trans, le-refl, le-of-suc-le-suc, not-suc-le-zero, zero-mod}
 use native.Mathlib.Omega.{arith}
 use lib.ListN.{length, take}
@@ -24,20 +24,19 @@ use Rattle.job.specs.declared.loader.Turn.the-variants.{Play, Stop}
 use Rattle.job.specs.declared.loading.Progress.{Progress}
 use Rattle.job.specs.declared.loading.Progress.the-variants.{Waiting, Within, Over}
 use Rattle.job.specs.declared.loading.Loading.{Loading}
-use Rattle.job.specs.declared.loading.LoadTurn.{LoadTurn}
 use Rattle.job.specs.declared.loading.Sending.the-variants.{SendsNothing}
 use Rattle.job.specs.Refusal.{beginRefusal}
 use Rattle.job.specs.Loader.{Turned, turned, nextSector, turnOf}
 use Rattle.job.specs.Run.{Sent, sent, World, world, noneSent, sendOf, playOf, runOf}
 use Rattle.job.specs.Sent.{sentOf}
 use Rattle.job.specs.Bill.{jobFrom, played, loadOf}
-use Rattle.job.specs.Loading.{loading, beginLoad, isEnding, progressInRange, movedTo, loadTurn, stopsWith, taken, LoadTurned, loadTurned, takes, progressOf, loadTurnOf}
+use Rattle.job.specs.Loading.{loading, beginLoad, isEnding, progressInRange, loadTurn, stopsWith, taken, LoadTurned, loadTurned, takes, progressOf, loadTurnOf}
 use Rattle.job.specs.Socket.{LoadTold, loadTold, toldAfter, loadTalk, LoadHeard, loadHeardOf, heardAfter, loadHeard, HasLoaded, operationMost, cyclesMost, AllAllowed, HasEnded}
 use Rattle.job.proofs.AcceptedJob.{AcceptedJob}
 use Rattle.job.proofs.Accepts.{none-stands, accepted-job, not-refused, sector-most}
 use Rattle.job.proofs.InRange.{turns-job, goes-by}
 use Rattle.job.proofs.Falls.{operationLeft, sectorLeft, sectorsLeft, loaderLeft, InOrder, Fine, next-fine, turn-fine}
-use Rattle.job.proofs.Rest.{chipOf, Pass, pass, ahead, passOf, Rest}
+use Rattle.job.proofs.Rest.{chipOf, passOf, Rest}
 use Rattle.job.proofs.Runs.{all-rest}
 
 module _ (part first : ℕ) (image : List ℕ) (wp : Bool) (p : ℕ) (begun : beginRefusal part first image wp p ≡ 0) (T : Loading → List ℕ → ℕ → LoadTurned)
