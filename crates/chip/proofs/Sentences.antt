@@ -25,6 +25,7 @@ use Rattle.chip.specs.declared.cycle.Cycle.{Cycle}
 use Rattle.chip.specs.declared.cycle.Shown.{Shown}
 use Rattle.chip.specs.Device.{noOperation, busy, device, freshDevice, core, inMode, deviceInRange}
 use Rattle.commands.specs.Commands.{broken, effectOf}
+use Rattle.chip.specs.Operation.{cellsOf, over, scarred, cutOn}
 use Rattle.chip.specs.Sequence.{afterEffect, writtenOf}
 use Rattle.chip.specs.Cycle.{cycle, Chip, chip, Outcome, outcome, identity, readOf, cutOf, settledOf, Settled, afterTime, actionRefusal, cycleRefusal, actedOf, acceptedOf, cycleOf}
 use Rattle.chip.specs.Trace.{leaves, after, play, effectStarts, actionStarts, startedBy, startedIn}
@@ -103,6 +104,14 @@ module _ (part : ℕ) (cells : List ℕ) (d : Device) (e : ℕ) (wp : Bool) wher
   pub cut-at-rest : (s : ℕ) → Taken (Cut s) → busy (d .core) ≡ false → gives (Cut s) ≡ outcome cells 0 freshDevice
   unfolding acceptedOf cutOf
   cut-at-rest s z b = taken (Cut s) z ∙ rw (rests (rowOf part) cells (d .core) e b) (simp b)
+
+  -- A cut while an operation runs, once the cycle's time has passed, leaves its cells scarred (Leaves `scarred-program`, `scarred-erase`), and no other changed.
+  pub cut-busy : (s : ℕ) → Taken (Cut s) → e < d .core .running .left
+      → gives (Cut s) ≡ outcome (over (scarred (rowOf part) (d .core .running) s) (cellsOf (rowOf part) (d .core .running)) cells) 0 freshDevice
+  unfolding acceptedOf settledOf cutOf cutOn cellsOf
+  cut-busy s z l =
+      let left = d .core .running .left in
+      taken (Cut s) z ∙ simp (lt-ltb 0 left (omega arith), lt-ltb e left l, lt-ltb 0 (left - e) (omega arith))
 
 -- ---- of writes in sequence
 -- on the lent cells of a known part, at rest, at any stage

@@ -30,7 +30,8 @@ use Rattle.invoice.proofs.Listed.{filling, looking}
 use Rattle.invoice.proofs.Loads.{deciding, decidingAll, reckoned, loads}
 use Rattle.billing.specs.File.{blankBench}
 use Rattle.demands.specs.Marked.{Cell, Case, Marked, Bus, Load, Ran, cases, holding, imageOf, loadSixth, afterJobs, sameBill, further, ran, asSaid, before, holdsCase, holdsMarked}
-use Rattle.demands.specs.Beside.{sheets, shownAll, protectedEnds, comparedBits, sentences}
+use Rattle.table.specs.Figures.{figureOf}
+use Rattle.demands.specs.Beside.{sheets, shownAll, figures, partsAre, protectedEnds, comparedBits, sentences}
 use Rattle.chip.proofs.Ranges.{after-length}
 
 -- a cycle on cells that are known to be n
@@ -160,3 +161,8 @@ ends-shown = on-cases (protectedEnds ++ comparedBits) computed-ends
 
 pub sentences-shown : every holdsCase sentences ≡ true
 sentences-shown = on-cases sentences computed-sentences
+
+-- The figures of every part are document 01's.
+pub figures-shown : partsAre 0 figures ≡ true
+unfolding figureOf rowOf partRefusal
+figures-shown = refl

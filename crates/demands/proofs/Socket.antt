@@ -1,12 +1,11 @@
 -- What is said of the loader for a real socket is proved. It stands in specs/Socket.antt.
 use Prim.Native.Nat.{ℕ}
 use mathlib.Core.Path.{_≡_, refl, sym, ap, ap₂, _∙_}
-use mathlib.Core.Bool.{Bool, true, false}
+use mathlib.Core.Bool.{false}
 use mathlib.Core.List.{List}
-use borrow.Author.Tests.{eq-eqb, ne-eqb, eqb-true}
+use borrow.Author.Tests.{ne-eqb, eqb-true}
 use lib.Dec.{eqb}
 use lib.ListN.{length}
-use Rattle.parts.specs.Table.{rowOf}
 use Rattle.parts.proofs.Every.{split}
 use Rattle.chip.specs.Cycle.{Chip}
 use Rattle.job.specs.declared.loading.Progress.the-variants.{Waiting}

@@ -3,6 +3,9 @@
 use Prim.Native.Nat.{ℕ, _+_, _-_}
 use mathlib.Core.Bool.{Bool, true, false}
 use mathlib.Core.List.{List, [], _∷_, _++_}
+use lib.Dec.{eqb}
+use Rattle.parts.specs.Pick.{pick}
+use Rattle.table.specs.Figures.{figureOf}
 use Rattle.chip.specs.declared.cycle.Cycle.{Cycle}
 use Rattle.demands.specs.Marked.{Cell, cell, Case, write, writeLow, read, idleFor, cut, arm, unlock}
 
@@ -67,6 +70,32 @@ shown s =
 abbrev pub shownAll : List Sheet → List Case
 shownAll [] = []
 shownAll (s ∷ ss) = shown s ++ shownAll ss
+
+-- ---- the figures of each part, from 0 on: Width, Cells, Block, Device ID, Program, Sector/block, Chip
+abbrev pub figures : List (List ℕ)
+figures =
+    (16 ∷ 8192 ∷ 4096 ∷ 0xfff0 ∷ 14 ∷ 18000 ∷ 70000 ∷ [])
+    ∷ (8 ∷ 131072 ∷ 0 ∷ 0xb5 ∷ 14 ∷ 18000 ∷ 70000 ∷ [])
+    ∷ (8 ∷ 262144 ∷ 0 ∷ 0xb6 ∷ 14 ∷ 18000 ∷ 70000 ∷ [])
+    ∷ (8 ∷ 524288 ∷ 0 ∷ 0xb7 ∷ 14 ∷ 18000 ∷ 70000 ∷ [])
+    ∷ (16 ∷ 131072 ∷ 32768 ∷ 0x2789 ∷ 14 ∷ 18000 ∷ 70000 ∷ [])
+    ∷ (16 ∷ 262144 ∷ 32768 ∷ 0x2780 ∷ 14 ∷ 18000 ∷ 70000 ∷ [])
+    ∷ (16 ∷ 524288 ∷ 32768 ∷ 0x2781 ∷ 14 ∷ 18000 ∷ 70000 ∷ [])
+    ∷ (16 ∷ 1048576 ∷ 32768 ∷ 0x274b ∷ 28 ∷ 36000 ∷ 140000 ∷ [])
+    ∷ (16 ∷ 1048576 ∷ 32768 ∷ 0x274a ∷ 28 ∷ 36000 ∷ 140000 ∷ [])
+    ∷ (16 ∷ 4194304 ∷ 32768 ∷ 0x236d ∷ 7 ∷ 18000 ∷ 40000 ∷ [])
+    ∷ (16 ∷ 4194304 ∷ 32768 ∷ 0x236c ∷ 7 ∷ 18000 ∷ 40000 ∷ [])
+    ∷ []
+
+-- the figures of a part from column k on are these
+abbrev pub figuresAre : ℕ → ℕ → List ℕ → Bool
+figuresAre part k [] = true
+figuresAre part k (v ∷ vs) = pick (eqb (figureOf part k .value) v) (figuresAre part (k + 1) vs) false
+
+-- and those of the parts from n on
+abbrev pub partsAre : ℕ → List (List ℕ) → Bool
+partsAre n [] = true
+partsAre n (vs ∷ rest) = pick (figuresAre n 0 vs) (partsAre (n + 1) rest) false
 
 -- ---- the protected block, from both sides: a program with WP# low is ignored at one address and starts at its neighbour
 abbrev pub guarded : ℕ → ℕ → ℕ → ℕ → ℕ → List Case

@@ -20,7 +20,7 @@ use Rattle.job.specs.Refusal.{beginRefusal}
 use Rattle.job.specs.Sent.{sentOf}
 use Rattle.job.specs.Bill.{jobFrom, reportOf}
 use Rattle.job.specs.Loading.{loading, isEnding, loadingInRange, loadTurn, LoadTurned, loadTurned}
-use Rattle.job.specs.Socket.{LoadTold, loadTalk, LoadHeard, loadHeard, cyclesMost, HasLoaded, HasEnded}
+use Rattle.job.specs.Socket.{loadTalk, loadHeard, cyclesMost, HasLoaded, HasEnded}
 use Rattle.job.proofs.begin_load.Kinds as begin-kinds
 use Rattle.job.proofs.begin_load.Reads as begin-reads
 use Rattle.job.proofs.loading.Loading.turn.Kinds as turn-kinds

@@ -1,6 +1,6 @@
 -- A refused turn changes nothing: the state and the values seen are handed back as they came, and no cycle is named.
 use Prim.Native.Nat.{ℕ, _+_, _≤_, _<_}
-use mathlib.Core.Path.{_≡_, refl, sym, ap, _∙_}
+use mathlib.Core.Path.{_≡_, refl, sym, _∙_}
 use mathlib.Core.Bool.{Bool, true, false}
 use mathlib.Core.List.{List}
 use native.Mathlib.Omega.{arith}
@@ -30,8 +30,9 @@ use Rattle.job.specs.declared.search.Decision.{Decision}
 use Rattle.job.specs.declared.search.Decision.the-variants.{NoErase, SectorErase}
 use Rattle.job.specs.Search.{decisionOf}
 use Rattle.job.specs.Refusal.{standingRefusal}
-use Rattle.job.specs.Loader.{Turned, turned, placeOf, readsCell, lookOf, beginOf, carryOut, burnOf, decideOf, drivenOf, seenOf, scannedOf, stageOf, inJob, turnOf}
-use Rattle.job.specs.Loading.{loading, isEnding, loaderInRange, progressInRange, jobIn, loadingInRange, loadTurn, stopsWith, taken, LoadTurned, loadTurned, takes, firstTurn, progressOf, loadTurnOf}
+use Rattle.job.specs.Loader.{turned, placeOf, readsCell, lookOf, beginOf, carryOut, burnOf, decideOf, drivenOf, seenOf, scannedOf, stageOf, inJob, turnOf}
+use Rattle.job.specs.Loading.{loading, isEnding, loaderInRange, progressInRange, jobIn, loadingInRange}
+use Rattle.job.specs.Loading.{loadTurn, stopsWith, taken, LoadTurned, loadTurned, takes, firstTurn, progressOf, loadTurnOf}
 use Rattle.job.proofs.InJob.{in-sector}
 use Rattle.job.proofs.AcceptedJob.{erase-begins}
 use Rattle.job.proofs.Accepts.{Standing, standing}

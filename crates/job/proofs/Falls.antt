@@ -1,14 +1,13 @@
 -- Whatever is replied, a turn of a loader in range names a cycle that leaves it in range and nearer to its end, or it ends with 0, 11 or 12.
-use Prim.Native.Nat.{ℕ, zero, suc, _+_, _-_, _*_, _/_, _%_, _≤_, _<_}
+use Prim.Native.Nat.{ℕ, suc, _+_, _-_, _*_, _/_, _%_, _≤_, _<_}
 use mathlib.Core.Path.{_≡_, refl, sym, ap, _∙_}
 use mathlib.Core.Bool.{Bool, true, false}
 use mathlib.Core.List.{List}
-use native.Mathlib.Nat.{le-refl, le-trans, suc-mul, mul-add, add-mod-right, mul-le-mul-right, div-add-mod', add-div-right}
+use native.Mathlib.Nat.{le-trans, suc-mul, mul-add, add-mod-right, mul-le-mul-right, div-add-mod', add-div-right}
 use native.Mathlib.Omega.{arith}
-use borrow.Author.Tests.{leb-true, leb-false, ltb-true, ltb-false, eqb-true, eq-eqb}
+use borrow.Author.Tests.{leb-true, leb-false, ltb-true, eqb-true, eq-eqb}
 use lib.Dec.{eqb, ltb, leb}
-use lib.ListN.{length, getD, take, drop}
-use Rattle.parts.specs.Width.{sectorSize, blankOf}
+use lib.ListN.{getD, take, drop}
 use Rattle.parts.specs.Table.{rowOf}
 use Rattle.parts.proofs.Every.{both, split}
 use Rattle.parts.proofs.Ranges.{sector-some}
@@ -37,7 +36,7 @@ use Rattle.job.specs.declared.loader.Turn.the-variants.{Play, Stop}
 use Rattle.job.specs.declared.search.Decision.{Decision}
 use Rattle.job.specs.declared.search.Decision.the-variants.{NoErase, SectorErase}
 use Rattle.job.specs.Search.{decisionOf}
-use Rattle.job.specs.Loader.{Turned, loader, placeOf, readsCell, nextSector, lookOf, goesOn, firstStep, beginOf, nextMark, fillOf, burnOf, carryOut, decideOf, afterwards, drivenOf, seenOf}
+use Rattle.job.specs.Loader.{loader, placeOf, readsCell, nextSector, lookOf, goesOn, firstStep, beginOf, nextMark, fillOf, burnOf, carryOut, decideOf, afterwards, drivenOf, seenOf}
 use Rattle.job.specs.Loader.{scannedOf, stageOf, turnOf}
 use Rattle.job.specs.Socket.{Allowed, reads, programs, erases}
 use Rattle.job.specs.Loading.{isEnding, askedFor, sameAsked, stageInRange, loaderInRange}
@@ -220,7 +219,8 @@ module _ (j : Job) (image : List ℕ) (R : AcceptedJob j image) where
           → Fine (left d + onward) (goesOn j task base i (stepOf d read .driver) e a)
       goes-fine d read e a v s q =
           let u = stepOf d read .driver in
-          let w : sameAsked u (askedFor j image task base i) ≡ true = ap (λ (u : Driver). sameAsked u (askedFor j image task base i)) (asks-on d read) ∙ (moved-asks d _ _ (askedFor j image task base i) ∙ s) in
+          let o = askedFor j image task base i in
+          let w : sameAsked u o ≡ true = ap (λ (u : Driver). sameAsked u o) (asks-on d read) ∙ (moved-asks d _ _ o ∙ s) in
           let f : leftFrom (Send e a) u ≤ left d = rw q at (falls d read) in
           (in-order (Driving task u) base i inside aligned there w (keeps d read v), (omega (arith, f), (refl, names-allowed d read e a s q)))
 
@@ -257,8 +257,9 @@ module _ (j : Job) (image : List ℕ) (R : AcceptedJob j image) where
     fill-fine : (i : ℕ) → Fine ((j .size - i) * P + beyond) (fillOf j image base i)
     unfolding fillOf
     fill-fine i =
-        split (Fine ((j .size - i) * P + beyond)) (ltb (nextMark j image base i) (j .size)) (beginOf j Filling base (nextMark j image base i) 0 (imageAt (nextMark j image base i))) (nextSector j (base + j .size))
-        (λ t. marks (nextMark j image base i) (ltb-true (nextMark j image base i) (j .size) t) (omega arith))
+        let k = nextMark j image base i in
+        split (Fine ((j .size - i) * P + beyond)) (ltb k (j .size)) (beginOf j Filling base k 0 (imageAt k)) (nextSector j (base + j .size))
+        (λ t. marks k (ltb-true k (j .size) t) (omega arith))
         (λ _. fine-more beyond _ (nextSector j (base + j .size)) (omega arith) then-next)
       where
         marks : (k : ℕ) → k < j .size → i ≤ k → Fine ((j .size - i) * P + beyond) (beginOf j Filling base k 0 (imageAt k))

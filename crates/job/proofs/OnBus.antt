@@ -1,8 +1,8 @@
 -- The exported loader on a bus, once begun: against the model of the chip it sends the one list and leaves what the job leaves; against any replies it ends.
-use Prim.Native.Nat.{ℕ, zero, suc, zero-le, suc-le-suc, _+_, _-_, _*_, _/_, _≤_, _<_}
+use Prim.Native.Nat.{ℕ, zero, suc, zero-le, suc-le-suc, _+_, _-_, _*_, _/_, _≤_}
 use mathlib.Core.Path.{_≡_, refl, sym, ap, _∙_}
 use mathlib.Core.Bool.{Bool, true}
-use mathlib.Core.List.{List, [], _∷_}
+use mathlib.Core.List.{List, []}
 use native.Mathlib.Nat.{le-trans, le-refl, le-of-suc-le-suc, not-suc-le-zero, zero-mod}
 use native.Mathlib.Omega.{arith}
 use lib.ListN.{length, take}
@@ -24,20 +24,19 @@ use Rattle.job.specs.declared.loader.Turn.the-variants.{Play, Stop}
 use Rattle.job.specs.declared.loading.Progress.{Progress}
 use Rattle.job.specs.declared.loading.Progress.the-variants.{Waiting, Within, Over}
 use Rattle.job.specs.declared.loading.Loading.{Loading}
-use Rattle.job.specs.declared.loading.LoadTurn.{LoadTurn}
 use Rattle.job.specs.declared.loading.Sending.the-variants.{SendsNothing}
 use Rattle.job.specs.Refusal.{beginRefusal}
 use Rattle.job.specs.Loader.{Turned, turned, nextSector, turnOf}
 use Rattle.job.specs.Run.{Sent, sent, World, world, noneSent, sendOf, playOf, runOf}
 use Rattle.job.specs.Sent.{sentOf}
 use Rattle.job.specs.Bill.{jobFrom, played, loadOf}
-use Rattle.job.specs.Loading.{loading, beginLoad, isEnding, progressInRange, movedTo, loadTurn, stopsWith, taken, LoadTurned, loadTurned, takes, progressOf, loadTurnOf}
+use Rattle.job.specs.Loading.{loading, beginLoad, isEnding, progressInRange, loadTurn, stopsWith, taken, LoadTurned, loadTurned, takes, progressOf, loadTurnOf}
 use Rattle.job.specs.Socket.{LoadTold, loadTold, toldAfter, loadTalk, LoadHeard, loadHeardOf, heardAfter, loadHeard, HasLoaded, operationMost, cyclesMost, AllAllowed, HasEnded}
 use Rattle.job.proofs.AcceptedJob.{AcceptedJob}
 use Rattle.job.proofs.Accepts.{none-stands, accepted-job, not-refused, sector-most}
 use Rattle.job.proofs.InRange.{turns-job, goes-by}
 use Rattle.job.proofs.Falls.{operationLeft, sectorLeft, sectorsLeft, loaderLeft, InOrder, Fine, next-fine, turn-fine}
-use Rattle.job.proofs.Rest.{chipOf, Pass, pass, ahead, passOf, Rest}
+use Rattle.job.proofs.Rest.{chipOf, passOf, Rest}
 use Rattle.job.proofs.Runs.{all-rest}
 
 module _ (part first : ℕ) (image : List ℕ) (wp : Bool) (p : ℕ) (begun : beginRefusal part first image wp p ≡ 0) (T : Loading → List ℕ → ℕ → LoadTurned)
@@ -141,7 +140,8 @@ module _ (part first : ℕ) (image : List ℕ) (wp : Bool) (p : ℕ) (begun : be
   -- Whatever is replied, it has ended after so many cycles.
   pub ends-whatever : (f : ℕ → ℕ) (seen : List ℕ) (read n : ℕ) → cyclesMost j ≤ n → HasEnded T j image (loadHeard T f n (T (beginLoad part first image wp p .loading) seen read))
   ends-whatever f seen read n h =
-      let c : Closed (cyclesMost j) n (loadHeard T f n (shown (turned seen (nextSector j 0)))) = heard-closed n f (cyclesMost j) seen (nextSector j 0) (rw most-is at (next-fine j image R 0 (zero-mod (j .size)))) in
+      let s = nextSector j 0 in
+      let c : Closed (cyclesMost j) n (loadHeard T f n (shown (turned seen s))) = heard-closed n f (cyclesMost j) seen s (rw most-is at (next-fine j image R 0 (zero-mod (j .size)))) in
       rw (first-turn seen read)
       (record { names-nothing = c .names-nothing h; numbered = c .numbered h; cycles-few = c .few; allowed = c .allowed; repeated = c .repeated h })
 
@@ -225,6 +225,8 @@ module _ (part first : ℕ) (image : List ℕ) (wp : Bool) (p : ℕ) (begun : be
         let all : take n (sentOf j image cells) ≡ sentOf j image cells = take-all n (sentOf j image cells) few in
         record {
           sends = sends-first n ∙ all;
-          leaves = rw (not-refused part first image wp p begun (length cells) whole) (ap (λ (h : Chip). h .cells) (leaves-played n) ∙ ap (λ (L : List Sent). playOf part (world cells noneSent) L .cells) all);
+          leaves =
+              rw (not-refused part first image wp p begun (length cells) whole)
+              (ap (λ (h : Chip). h .cells) (leaves-played n) ∙ ap (λ (L : List Sent). playOf part (world cells noneSent) L .cells) all);
           ends = ap (λ (t : LoadTold). t .last .turn) (begins-talk n) ∙ (ap (taken (state Waiting)) (the-rest n .1 .1 .1 few) ∙ stops Waiting 0 refl);
         }

@@ -20,7 +20,7 @@ ghost use mathlib.Core.Path.{_≡_};
 ghost use Prim.Native.Nat.{_+_, _≤_, _<_};
 ghost use lib.ListN.{getD, length};
 ghost use Rattle.job.specs.Fits.{JobFits};
-ghost use Rattle.job.specs.Loading.{askedFor, beginLoad, isEnding, jobIn, jobTurn, loaderInRange, loadTurn, loadTurnOf, loading, movedTo, newDriver, progressInRange, sameAsked, stopsWith, taken};
+ghost use Rattle.job.specs.Loading.{askedFor, beginLoad, isEnding, jobTurn, loaderInRange, loadTurn, loadTurnOf, loading, movedTo, newDriver, progressInRange, sameAsked, stopsWith, taken};
 
 // How far a job is: no cycle named yet; within; or ended with its number.
 pub enum Progress {

@@ -1,7 +1,7 @@
 -- `job::loading::begin_load` meets its contract.
 use mathlib.Core.Path.{_≡_, sym}
 use native.Mathlib.Omega.{arith}
-use borrow.Author.Tests.{eq-eqb, ne-eqb}
+use borrow.Author.Tests.{ne-eqb}
 use borrow.Author.Needs.{needs}
 use Rattle.job.specs.Loading.{beginLoad}
 use Rattle.job.proofs.Billing.{none-given}

@@ -1,5 +1,5 @@
 -- `job::refusal::begin_refusal` meets its contract.
-use mathlib.Core.Path.{ap, sym, _∙_}
+use mathlib.Core.Path.{ap, sym}
 use borrow.Author.Tests.{lt-ltb, le-ltb}
 use borrow.Author.Needs.{needs}
 use Rattle.parts.specs.declared.table.Found.{Found}
@@ -13,7 +13,9 @@ returns c = simp (sym (ap (λ (f : Found). f .answer) (c .before .part-row .ensu
 
 returns-2 : tie.Need-returns-2
 unfolding beginRefusal
-returns-2 c = simp (sym (ap (λ (f : Found). f .answer) (c .before .before .part-row .ensures)), sym (ap (λ (f : Found). f .row) (c .before .before .part-row .ensures)), le-ltb _ _ (c .before .if1 .left)) (c .request-refusal .ensures)
+returns-2 c = let at = c .before .before in
+    let f = at .part-row .ensures in
+    simp (sym (ap (λ (f : Found). f .answer) f), sym (ap (λ (f : Found). f .row) f), le-ltb _ _ (c .before .if1 .left)) (c .request-refusal .ensures)
 
 pub begin-refusal-spec : {M : Type 1} → statement M
 begin-refusal-spec =

@@ -1,5 +1,5 @@
 -- `job::refusal::job_refusal` meets its contract.
-use mathlib.Core.Path.{ap, sym, _∙_}
+use mathlib.Core.Path.{ap, sym}
 use borrow.Author.Tests.{eq-eqb, ne-eqb, lt-ltb, le-ltb}
 use borrow.Author.Needs.{needs}
 use Rattle.job.specs.Refusal.{jobRefusal}
@@ -13,11 +13,15 @@ returns c = simp (sym (ap (λ (f : Found). f .answer) (c .before .part-row .ensu
 
 returns-2 : tie.Need-returns-2
 unfolding jobRefusal
-returns-2 c = let f = c .before .before .before .before .part-row .ensures in simp (sym (ap (λ (f : Found). f .answer) f), sym (ap (λ (f : Found). f .row) f), le-ltb _ _ (c .before .before .before .if1 .left), ne-eqb _ _ (c .if2 .taken))
+returns-2 c = let at = c .before .before .before in
+    let f = at .before .part-row .ensures in
+    simp (sym (ap (λ (f : Found). f .answer) f), sym (ap (λ (f : Found). f .row) f), le-ltb _ _ (at .if1 .left), ne-eqb _ _ (c .if2 .taken))
 
 returns-3 : tie.Need-returns-3
 unfolding jobRefusal
-returns-3 c = let f = c .before .before .before .before .before .part-row .ensures in simp (sym (ap (λ (f : Found). f .answer) f), sym (ap (λ (f : Found). f .row) f), le-ltb _ _ (c .before .before .before .before .if1 .left), eq-eqb _ _ (c .before .if2 .left)) (c .request-refusal .ensures)
+returns-3 c = let at = c .before .before .before .before in
+    let f = at .before .part-row .ensures in
+    simp (sym (ap (λ (f : Found). f .answer) f), sym (ap (λ (f : Found). f .row) f), le-ltb _ _ (at .if1 .left), eq-eqb _ _ (c .before .if2 .left)) (c .request-refusal .ensures)
 
 pub job-refusal-spec : {M : Type 1} → statement M
 job-refusal-spec =

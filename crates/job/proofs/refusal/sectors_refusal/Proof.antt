@@ -16,19 +16,25 @@ unfolding sectorsRefusal
 returns c = simp (sym (c .before .sector-size .ensures), lt-ltb _ _ (c .if1 .taken))
 
 rem-if2 : tie.Need-rem-if2
-rem-if2 c = omega (arith, c .before .sector-size .ensures, sector-some (c .before .before .args .row .width))
+rem-if2 c = let at = c .before .before in
+    omega (arith, c .before .sector-size .ensures, sector-some (at .args .row .width))
 
 returns-2 : tie.Need-returns-2
 unfolding sectorsRefusal
-returns-2 c = simp (sym (c .before .before .sector-size .ensures), le-ltb _ _ (c .before .if1 .left), lt-ltb _ _ (c .if2 .taken))
+returns-2 c = let at = c .before .before in
+    simp (sym (at .sector-size .ensures), le-ltb _ _ (c .before .if1 .left), lt-ltb _ _ (c .if2 .taken))
 
 returns-3 : tie.Need-returns-3
 unfolding sectorsRefusal
-returns-3 c = simp (sym (c .before .before .before .before .before .sector-size .ensures), le-ltb _ _ (c .before .before .before .before .if1 .left), le-ltb _ _ (c .before .before .before .if2 .left), sym (c .before .within .ensures) ∙ not-true _ (c .if3 .taken))
+returns-3 c = let at = c .before .before .before in
+    let at2 = at .before .before in
+    simp (sym (at2 .sector-size .ensures), le-ltb _ _ (at .before .if1 .left), le-ltb _ _ (at .if2 .left), sym (c .before .within .ensures) ∙ not-true _ (c .if3 .taken))
 
 returns-4 : tie.Need-returns-4
 unfolding sectorsRefusal
-returns-4 c = simp (sym (c .before .before .before .before .before .sector-size .ensures), le-ltb _ _ (c .before .before .before .before .if1 .left), le-ltb _ _ (c .before .before .before .if2 .left), sym (c .before .within .ensures) ∙ not-false _ (c .if3 .left))
+returns-4 c = let at = c .before .before .before in
+    let at2 = at .before .before in
+    simp (sym (at2 .sector-size .ensures), le-ltb _ _ (at .before .if1 .left), le-ltb _ _ (at .if2 .left), sym (c .before .within .ensures) ∙ not-false _ (c .if3 .left))
 
 pub sectors-refusal-spec : {M : Type 1} → statement M
 sectors-refusal-spec =

@@ -9,11 +9,15 @@ use Rattle.job.proofs.loading.Loading.stops_with.Tie as tie
 
 returns : tie.Need-returns
 unfolding stopsWith
-returns c = simp (sym (c .before .before .before .is-ending .ensures) ∙ c .before .before .if1 .taken) (c .answers .ensures ∙ ap (λ (g : Loading). loadTurn (c .before .before .before .before .args .n) g SendsNothing) (c .before .moved-to .ensures))
+returns c = let at = c .before .before in
+    let at2 = at .before .before in
+    let e = ap (λ (g : Loading). loadTurn (at2 .args .n) g SendsNothing) (c .before .moved-to .ensures) in
+    simp (sym (at .before .is-ending .ensures) ∙ at .if1 .taken) (c .answers .ensures ∙ e)
 
 returns-2 : tie.Need-returns-2
 unfolding stopsWith
-returns-2 c = simp (sym (c .before .before .is-ending .ensures) ∙ c .before .if1 .left) (c .answers2 .ensures)
+returns-2 c = let at = c .before .before in
+    simp (sym (at .is-ending .ensures) ∙ c .before .if1 .left) (c .answers2 .ensures)
 
 pub stops-with-spec : {M : Type 1} → statement M
 stops-with-spec =

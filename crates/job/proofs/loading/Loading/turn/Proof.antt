@@ -1,5 +1,5 @@
 -- `job::loading::Loading::turn` meets its contract.
-use mathlib.Core.Path.{_≡_, refl, ap, sym, _∙_}
+use mathlib.Core.Path.{ap, sym, _∙_}
 use native.Mathlib.Omega.{arith}
 use borrow.Author.Needs.{needs}
 use Rattle.job.specs.Loading.{LoadTurned}
@@ -9,22 +9,36 @@ use Rattle.job.proofs.loading.Loading.turn.Statement.{statement}
 use Rattle.job.proofs.loading.Loading.turn.Tie as tie
 
 returns : tie.Need-returns
-returns c = let g = c .before .before .before .before .args in let s = c .before .before .standing-refusal in
-    let e = sym (out-of-range (g .self) (g .image .now) (g .seen .now) (g .read) (λ z. omega (arith, s .ensures, c .before .if1 .taken, z))) in
+returns c = let at = c .before .before in
+    let at2 = at .before .before in
+    let g = at2 .args in
+    let s = at .standing-refusal .ensures in
+    let e = sym (out-of-range (g .self) (g .image .now) (g .seen .now) (g .read) (λ z. omega (arith, s, c .before .if1 .taken, z))) in
     (c .answers .ensures ∙ ap (λ (t : LoadTurned). t .turn) e, ap (λ (t : LoadTurned). t .seen) e)
 
 returns-2 : tie.Need-returns-2
-returns-2 c = let g = c .before .before .before .before .before .before .args in let z = none-given (c .before .before .before .before .standing-refusal .ensures) (c .before .before .before .if1 .left) in
+returns-2 c = let at = c .before .before .before in
+    let at2 = at .before .before .before in
+    let g = at2 .args in
+    let z = none-given (at .before .standing-refusal .ensures) (at .if1 .left) in
     let e = sym (other-image (g .self) (g .image .now) (g .seen .now) (g .read) z (c .before .if2 .taken)) in
     (c .answers2 .ensures ∙ ap (λ (t : LoadTurned). t .turn) e, ap (λ (t : LoadTurned). t .seen) e)
 
 job-turn-requires : tie.Need-job-turn-requires
-job-turn-requires c κs = let g = c .before .before .before .before .before .before .before .args in rw (c .before .job-of .ensures) (job-fits (g .self) (g .image .now) (none-given (c .before .before .before .before .before .standing-refusal .ensures) (c .before .before .before .before .if1 .left)) (c .before .before .if2 .left))
+job-turn-requires c κs = let at = c .before .before in
+    let at2 = at .before .before in
+    let at3 = at2 .before .before .before in
+    let g = at3 .args in
+    rw (c .before .job-of .ensures) (job-fits (g .self) (g .image .now) (none-given (at2 .before .standing-refusal .ensures) (at2 .if1 .left)) (at .if2 .left))
 
 returns-3 : tie.Need-returns-3
-returns-3 c = let g = c .before .before .before .before .before .before .before .before .args in let z = none-given (c .before .before .before .before .before .before .standing-refusal .ensures) (c .before .before .before .before .before .if1 .left) in
-    let e = sym (turns-job (g .self) (g .image .now) (g .seen .now) (g .read) z (c .before .before .before .if2 .left)) in
-    let t = rw (c .before .before .job-of .ensures) at (c .job-turn .ensures) in
+returns-3 c = let at = c .before .before in
+    let at2 = at .before .before .before in
+    let at3 = at2 .before .before .before in
+    let g = at3 .args in
+    let z = none-given (at2 .before .standing-refusal .ensures) (at2 .if1 .left) in
+    let e = sym (turns-job (g .self) (g .image .now) (g .seen .now) (g .read) z (at .before .if2 .left)) in
+    let t = rw (at .job-of .ensures) at (c .job-turn .ensures) in
     (t .0 ∙ ap (λ (t : LoadTurned). t .turn) e, t .1 ∙ ap (λ (t : LoadTurned). t .seen) e)
 
 pub turn-spec : {M : Type 1} → statement M
