@@ -6,7 +6,7 @@ use mathlib.Core.List.{List}
 use native.Mathlib.Omega.{arith}
 use borrow.Author.Tests.{eqb-true, lt-ltb}
 use lib.Dec.{eqb, ltb}
-use lib.ListN.{length, set, take, drop}
+use lib.ListN.{length, take, drop}
 use Rattle.parts.specs.Pick.{pick}
 use Rattle.parts.specs.Table.{rowOf, partRefusal}
 use Rattle.parts.specs.Time.{isInterval}
@@ -102,7 +102,8 @@ module _ (g : Loading) (S : Standing (g .part) (g .first) (g .count) (g .wp) (g 
 
   stage-same : (seen : List ℕ) (s : Stage) (base i read : ℕ) → base + j .size ≤ j .count
       → Same seen (takes g (turned (seenOf s seen i read) (stageOf j image (seenOf s seen i read) s base i read)))
-  stage-same seen Scanning base i read h = goes-same seen (set seen i read) (scannedOf j image (set seen i read) base i) (scan-goes (set seen i read) base i h)
+  stage-same seen Scanning base i read h =
+      let kept = seenOf Scanning seen i read in goes-same seen kept (scannedOf j image kept base i) (scan-goes kept base i h)
   stage-same seen Looking base i read h = taken-same seen (burnOf j image base i read)
   stage-same seen (Driving t d) base i read h = taken-same seen (drivenOf j image t base i (stepOf d read))
 

@@ -18,3 +18,4 @@ pub mod Counts
 pub mod Determined
 pub mod Sentences
 pub mod BySector
+pub mod Exactly
