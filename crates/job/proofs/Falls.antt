@@ -8,6 +8,7 @@ use native.Mathlib.Omega.{arith}
 use borrow.Author.Tests.{leb-true, leb-false, ltb-true, eqb-true, eq-eqb}
 use lib.Dec.{eqb, ltb, leb}
 use lib.ListN.{getD, take, drop}
+use Rattle.parts.specs.Width.{valueOf}
 use Rattle.parts.specs.Table.{rowOf}
 use Rattle.parts.proofs.Every.{both, split}
 use Rattle.parts.proofs.Ranges.{sector-some}
@@ -272,7 +273,7 @@ module _ (j : Job) (image : List ℕ) (R : AcceptedJob j image) where
     unfolding burnOf
     burn-fine i reply h =
         let e : j .size - i ≡ suc (j .size - (i + 1)) = omega arith in
-        split (Fine (j .size - (i + 1) + (j .size - i) * P + beyond)) (eqb reply (imageAt i)) (lookOf j base (i + 1)) (beginOf j Burning base i 0 (imageAt i))
+        split (Fine (j .size - (i + 1) + (j .size - i) * P + beyond)) (eqb (valueOf (j .row .width) reply) (imageAt i)) (lookOf j base (i + 1)) (beginOf j Burning base i 0 (imageAt i))
         (λ _. fine-more _ _ (lookOf j base (i + 1)) (looks (j .size - i) (j .size - (i + 1)) e) (look-fine (i + 1)))
         (λ _. fine-more _ _ (beginOf j Burning base i 0 (imageAt i)) (burns (j .size - i) (j .size - (i + 1)) e)
         (program-fine Burning i h (rw (asked-same (begun (j .part) 0 (placeOf j base i) (imageAt i) (j .p)) (askedFor j image Burning base i) refl refl refl refl) (eq-eqb (j .p) (j .p) refl))))

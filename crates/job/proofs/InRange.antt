@@ -1,13 +1,14 @@
 -- The states of the exported loader: in range, or a turn answers them with 5.
 use Prim.Native.Nat.{ℕ, _≤_}
-use mathlib.Core.Path.{_≡_, ap}
+use mathlib.Core.Path.{_≡_, ap, _∙_}
 use mathlib.Core.Bool.{Bool, true, false}
 use mathlib.Core.List.{List}
 use native.Mathlib.Omega.{arith}
 use borrow.Author.Tests.{eq-eqb, ne-eqb, eqb-true}
 use lib.Dec.{eqb}
 use lib.ListN.{length}
-use Rattle.parts.specs.Table.{rowOf}
+use Rattle.parts.specs.Table.{rowOf, foundOf}
+use Rattle.parts.specs.declared.table.Found.{Found}
 use Rattle.parts.proofs.Every.{both}
 use Rattle.parts.proofs.Sound.{width-most, cells-most}
 use Rattle.parts.proofs.Ranges.{sector-some}
@@ -17,7 +18,8 @@ use Rattle.job.specs.declared.loading.Progress.{Progress}
 use Rattle.job.specs.declared.loading.Loading.{Loading}
 use Rattle.job.specs.declared.loading.Sending.the-variants.{SendsNothing}
 use Rattle.job.specs.Fits.{JobFits}
-use Rattle.job.specs.Refusal.{beginRefusal, standingRefusal}
+use Rattle.job.specs.Refusal.{beginRefusal, standingOn, standingRefusal}
+use Rattle.job.specs.Bill.{jobOn, jobFrom}
 use Rattle.job.specs.Loading.{sameAsked, progressInRange, jobIn, loadingInRange, loadTurn, loadTurned, progressOf, loadTurnOf, jobTurn}
 use Rattle.job.proofs.Accepts.{standing, none-stands, sector-most}
 
@@ -57,6 +59,15 @@ module _ (g : Loading) (j : Job) (image seen : List ℕ) (read : ℕ) where
   pub goes-by : (x : Progress) → g .progress ≡ x → progressInRange j image (g .progress) ≡ true → jobTurn g j image seen read ≡ progressOf g j image seen x read
   unfolding jobTurn
   goes-by x e t = rw t (ap (λ (x : Progress). progressOf g j image seen x read) e)
+
+-- ---- what is found on a part that was looked up is the part's
+module _ (f : Found) (part first count : ℕ) (wp : Bool) (p : ℕ) (found : f ≡ foundOf part) where
+  pub standing-found : {n : ℕ} → n ≡ standingOn f first count wp p → n ≡ standingRefusal part first count wp p
+  unfolding standingRefusal
+  standing-found e = e ∙ ap (λ (f : Found). standingOn f first count wp p) found
+
+  pub job-found : {j : Job} → j ≡ jobOn (f .row) part first count wp p → j ≡ jobFrom part first count wp p
+  job-found e = e ∙ ap (λ (f : Found). jobOn (f .row) part first count wp p) found
 
 -- ---- a turn, by what was asked
 module _ (g : Loading) (image : List ℕ) where

@@ -13,7 +13,7 @@ use lib.Seq.{take-suc, take-suc-set, getD-take, getD-drop, getD-set-other, drop-
 use lib.Bits.{bitAnd}
 use Rattle.parts.specs.Pick.{pick}
 use Rattle.parts.specs.Width.{valueOf, blankOf, fitsIn, sectorSize}
-use Rattle.parts.proofs.Values.{value-blank, blank-and}
+use Rattle.parts.proofs.Values.{value-value, value-blank, blank-and}
 use Rattle.parts.specs.Table.{rowOf}
 use Rattle.parts.specs.declared.table.Row.{Row}
 use Rattle.chip.specs.declared.cycle.Action.the-variants.{Read}
@@ -292,10 +292,10 @@ module _ (j : Job) (image : List ℕ) (R : AcceptedJob j image) where
         by : (w′ : World) → Read-on w (a + i) w′ → (t : Bool) → eqb (value o) x ≡ t
             → Rest j image (turned seen (burnOf j image base i (value o))) w′ ((pick (eqb (value o) x) [] (operated j 0 (a + i) x) ++ rest) ++ L)
         by w′ z true t =
-            rw (t, ahead w′ (ap (drop (a + (i + 1))) (z .cells)))
+            rw (value-value (j .row .width) o, t, ahead w′ (ap (drop (a + (i + 1))) (z .cells)))
             (ih seen w′ D L (omega arith) n (z .ready) (λ q le lt. rw (z .cells) (b q (omega arith) lt)) (ap (drop (a + j .size)) (z .cells) ∙ d) h)
         by w′ z false t =
-            rw (t, append-assoc (operated j 0 (a + i) x) rest L)
+            rw (value-value (j .row .width) o, t, append-assoc (operated j 0 (a + i) x) rest L)
             (programs Burning i seen w′ (rest ++ L) k (z .ready) (rw (z .cells) (b i (le-refl i) k))
             (λ w″ g″ ec. let v = bitAnd (getD (w′ .cells) (a + i) 0) x in
             let cs : w″ .cells ≡ set (w .cells) (a + i) v = ec ∙ ap (λ (l : List ℕ). set l (a + i) v) (z .cells) in

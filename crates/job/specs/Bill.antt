@@ -9,6 +9,7 @@ use Rattle.parts.specs.Pick.{pick}
 use Rattle.parts.specs.Width.{sectorSize}
 use Rattle.parts.specs.Table.{rowOf}
 use Rattle.parts.specs.Time.{timeOf}
+use Rattle.parts.specs.declared.table.Row.{Row}
 use Rattle.job.specs.declared.loader.Job.{Job}
 use Rattle.job.specs.declared.run.Tally.{Tally}
 use Rattle.job.specs.declared.run.Held.{Held}
@@ -20,10 +21,12 @@ use Rattle.job.specs.Run.{World, world, noLast, noneSent, playOf}
 use Rattle.job.specs.Sent.{sentOf}
 use Rattle.job.specs.Formulas.{operationTime}
 
--- a job that was not refused
+-- a job that was not refused: on a part that was looked up, and by the part's number
+abbrev pub jobOn : Row → ℕ → ℕ → ℕ → Bool → ℕ → Job
+jobOn r part first count wp p = record { part = part; row = r; size = sectorSize (r .width); first = first; count = count; wp = wp; p = p }
+
 abbrev pub jobFrom : ℕ → ℕ → ℕ → Bool → ℕ → Job
-jobFrom part first count wp p =
-    record { part = part; row = rowOf part; size = sectorSize (rowOf part .width); first = first; count = count; wp = wp; p = p }
+jobFrom part first count wp p = jobOn (rowOf part) part first count wp p
 
 -- ---- the bill
 -- the time of a full job: every sector erased and every cell programmed

@@ -6,7 +6,7 @@ use lib.Dec.{eqb, ltb, leb}
 use lib.ListN.{getD, set, take, drop}
 use Rattle.parts.specs.Names.{PROGRAM, SECTOR}
 use Rattle.parts.specs.Pick.{pick}
-use Rattle.parts.specs.Width.{blankOf}
+use Rattle.parts.specs.Width.{valueOf, blankOf}
 use Rattle.chip.specs.declared.cycle.Action.{Action}
 use Rattle.chip.specs.declared.cycle.Action.the-variants.{Read, Write, Idle, Cut}
 use Rattle.chip.specs.Cycle.{cycle}
@@ -88,10 +88,10 @@ fillOf j image base i =
     (beginOf j Filling base (nextMark j image base i) PROGRAM (getD image (base + nextMark j image base i) 0))
     (nextSector j (base + j .size))
 
--- ---- an unerased sector: a cell that differs is programmed at once
+-- ---- an unerased sector: a cell whose value differs is programmed at once; on eight-bit parts only the reply's low eight bits count
 unfoldable pub burnOf : Job → List ℕ → ℕ → ℕ → ℕ → Turn
 burnOf j image base i reply =
-    pick (eqb reply (getD image (base + i) 0)) (lookOf j base (i + 1))
+    pick (eqb (valueOf (j .row .width) reply) (getD image (base + i) 0)) (lookOf j base (i + 1))
     (beginOf j Burning base i PROGRAM (getD image (base + i) 0))
 
 -- ---- the decision, from the values seen

@@ -7,11 +7,12 @@ use lib.ListN.{length}
 use Rattle.parts.specs.Names.{WRONG-CELLS, NOT-SECTORS, PAST-CELLS, WIDE-IMAGE, PROTECTED, BAD-INTERVAL}
 use Rattle.parts.specs.Pick.{pick, _when_, _unless_, _else_, _orElse_}
 use Rattle.parts.specs.Width.{fitsIn, sectorSize}
-use Rattle.parts.specs.Table.{rowOf, partRefusal}
+use Rattle.parts.specs.Table.{rowOf, partRefusal, foundOf}
 use Rattle.parts.specs.Time.{isInterval}
 use Rattle.parts.specs.Span.{protectedOf}
 use Rattle.parts.specs.declared.span.Span.{Span}
 use Rattle.parts.specs.declared.table.Row.{Row}
+use Rattle.parts.specs.declared.table.Found.{Found}
 
 -- every image value fits the width
 unfoldable pub fitAll : ℕ → List ℕ → Bool
@@ -59,10 +60,13 @@ jobRefusal part lent first image wp p =
 unfoldable pub beginRefusal : ℕ → ℕ → List ℕ → Bool → ℕ → ℕ
 beginRefusal part first image wp p = partRefusal part orElse requestRefusal (rowOf part) first image wp p
 
--- those that are found with no pass over the image, of count values: 1, 10, 6, 7, 9
-unfoldable pub standingRefusal : ℕ → ℕ → ℕ → Bool → ℕ → ℕ
-standingRefusal part first count wp p =
-    partRefusal part
+-- those that are found with no pass over the image, of count values, on a part that was looked up: 1, 10, 6, 7, 9
+abbrev pub standingOn : Found → ℕ → ℕ → Bool → ℕ → ℕ
+standingOn f first count wp p =
+    f .answer
     orElse BAD-INTERVAL unless isInterval p
-    else sectorsRefusal (rowOf part) first count
-    orElse protectionRefusal (rowOf part) first count wp
+    else sectorsRefusal (f .row) first count
+    orElse protectionRefusal (f .row) first count wp
+
+unfoldable pub standingRefusal : ℕ → ℕ → ℕ → Bool → ℕ → ℕ
+standingRefusal part first count wp p = standingOn (foundOf part) first count wp p

@@ -7,12 +7,13 @@ use crate::run::Tally;
 use crate::run::no_last;
 use crate::run::run;
 use crate::total::sum;
+use parts::Row;
 use parts::names::PROGRAM;
 use parts::names::SECTOR;
 ghost use mathlib.Core.Path.{_≡_};
 ghost use Prim.Native.Nat.{_-_, _≤_};
 ghost use Rattle.job.specs.Formulas.{operationTime};
-ghost use Rattle.job.specs.Bill.{FullTimeFits, billOf, firstFew, fullOf, jobFrom, loadOf, refusedBill, refusedReport, reportOf, reported};
+ghost use Rattle.job.specs.Bill.{FullTimeFits, billOf, firstFew, fullOf, jobFrom, jobOn, loadOf, refusedBill, refusedReport, reportOf, reported};
 
 // The bill: µs saved and spent, then counts, the sum, and 0 or the refusal.
 #[repr(C)]
@@ -43,12 +44,10 @@ pub struct Report {
     pub time: u64,
 }
 
-// A job that was not refused.
-pub(crate) fn job_of(part: u32, first: u32, count: u32, wp: bool, p: u32) -> Job
-    ensures { λ r. ⌜ r ≡ jobFrom part first count wp p ⌝ }
+// A job that was not refused, on a part that was looked up.
+pub(crate) fn job_on(row: Row, part: u32, first: u32, count: u32, wp: bool, p: u32) -> Job
+    ensures { λ r. ⌜ r ≡ jobOn row part first count wp p ⌝ }
 {
-    let found = table::part_row(part);
-    let row = found.row;
     Job {
         part,
         row,
@@ -58,6 +57,14 @@ pub(crate) fn job_of(part: u32, first: u32, count: u32, wp: bool, p: u32) -> Job
         wp,
         p,
     }
+}
+
+// A job that was not refused.
+fn job_of(part: u32, first: u32, count: u32, wp: bool, p: u32) -> Job
+    ensures { λ r. ⌜ r ≡ jobFrom part first count wp p ⌝ }
+{
+    let found = table::part_row(part);
+    job_on(found.row, part, first, count, wp, p)
 }
 
 // The bill of a refusal.

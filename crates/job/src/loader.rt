@@ -168,7 +168,7 @@ impl Job {
         self.next_sector(base + self.size)
     }
 
-    // A cell of an unerased sector that differs is programmed at once.
+    // A cell of an unerased sector whose value differs is programmed at once.
     fn burn(self, image: &[u16], base: u32, at: u32, reply: u16) -> Turn
         requires { ⌜ JobFits self (length (now image)) ⌝ }
         requires { ⌜ base + self .size ≤ self .count ⌝ }
@@ -176,7 +176,7 @@ impl Job {
         ensures { λ r. ⌜ r ≡ burnOf self (now (image .entry)) base at reply ⌝ }
     {
         let data = image[(base + at) as usize];
-        if reply == data {
+        if parts::value(self.row.width, reply) == data {
             return self.look(base, at + 1);
         }
         self.begin(Task::Burning, base, at, PROGRAM, data)

@@ -1,5 +1,5 @@
 // The loader for a real socket: begun once, and then turn by turn given the value last read. It has a bus, and no cells.
-use crate::bill::job_of;
+use crate::bill::job_on;
 use crate::loader::Job;
 use crate::loader::Loader;
 use crate::loader::Purpose;
@@ -259,13 +259,21 @@ impl Loading {
     pub fn turn(self, image: &[u16], seen: &mut [u16; 4096], read: u16) -> LoadTurn
         ensures { λ r. ⌜ (r ≡ loadTurnOf self (now (image .entry)) (now (seen .entry)) read .turn) × (now (seen .exit) ≡ loadTurnOf self (now (image .entry)) (now (seen .entry)) read .seen) ⌝ }
     {
-        if 0 < standing_refusal(self.part, self.first, self.count, self.wp, self.p) {
+        let found = table::part_row(self.part);
+        if 0 < standing_refusal(found, self.first, self.count, self.wp, self.p) {
             return self.answers(BAD_STATE);
         }
         if self.count as usize != image.len() {
             return self.answers(BAD_STATE);
         }
-        let job = job_of(self.part, self.first, self.count, self.wp, self.p);
+        let job = job_on(
+            found.row,
+            self.part,
+            self.first,
+            self.count,
+            self.wp,
+            self.p,
+        );
         self.job_turn(job, image, seen, read)
     }
 }

@@ -1,4 +1,5 @@
 // The refusals of a job, in document 01's order.
+use parts::Found;
 use parts::Row;
 use parts::Span;
 use parts::names::BAD_INTERVAL;
@@ -10,7 +11,7 @@ use parts::names::WRONG_CELLS;
 ghost use mathlib.Core.Path.{_≡_};
 ghost use Prim.Native.Nat.{_+_, _≤_};
 ghost use lib.Dec.{leb};
-ghost use Rattle.job.specs.Refusal.{beginRefusal, fitAll, jobRefusal, meets, protectionRefusal, rangeRefusal, requestRefusal, sectorsRefusal, standingRefusal};
+ghost use Rattle.job.specs.Refusal.{beginRefusal, fitAll, jobRefusal, meets, protectionRefusal, rangeRefusal, requestRefusal, sectorsRefusal, standingOn};
 
 // Whether every image value fits the width.
 fn all_fit(width: u32, image: &[u16]) -> bool
@@ -143,11 +144,10 @@ pub(crate) fn begin_refusal(part: u32, first: u32, image: &[u16], wp: bool, p: u
     request_refusal(found.row, first, image, wp, p)
 }
 
-// The refusal of a job that is found with no pass over its image: 1, 10, 6, 7, 9.
-pub(crate) fn standing_refusal(part: u32, first: u32, count: u32, wp: bool, p: u32) -> u32
-    ensures { λ r. ⌜ r ≡ standingRefusal part first count wp p ⌝ }
+// The refusal of a job that is found with no pass over its image, on a part that was looked up: 1, 10, 6, 7, 9.
+pub(crate) fn standing_refusal(found: Found, first: u32, count: u32, wp: bool, p: u32) -> u32
+    ensures { λ r. ⌜ r ≡ standingOn found first count wp p ⌝ }
 {
-    let found = table::part_row(part);
     let unknown = found.answer;
     if 0 < unknown {
         return unknown;
