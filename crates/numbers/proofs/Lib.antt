@@ -1,3 +1,4 @@
 pub mod Loop
+pub mod Names
 pub mod Back
 pub mod Determined
