@@ -9,20 +9,19 @@ use Rattle.driver.specs.Talk.{shows}
 use Rattle.job.specs.declared.loading.Loading.{Loading}
 use Rattle.job.specs.declared.loading.Sending.{Sending}
 use Rattle.job.specs.declared.loading.Sending.the-variants.{SendsNothing, Sends}
-use Rattle.job.specs.Loading.{loadTurn, LoadTurned, loadTurned, loadTurnOf}
+use Rattle.job.specs.Loading.{loadTurn, LoadTurned, loadTurned}
 use Rattle.job.specs.Socket.{loadTalk, loadHeard}
 use Rattle.numbers.specs.Machine.{nextOf}
 use Rattle.numbers.specs.Cycle.{deviceNumbers, deviceOf, cycledNumbers}
 use Rattle.numbers.specs.Loading.{loadingNumbers, sendingNumbers, toldTurned, turnedOf}
-use Rattle.numbers.specs.JobLoop.{nextSent, JobLooped, jobLooped, jobToldNumbers, jobLoop, JobAnswered, jobAnswered, jobHeardNumbers, jobHearing}
+use Rattle.numbers.specs.JobLoop.{turnsWith, nextSent, JobLooped, jobLooped, jobToldNumbers, jobLoop, JobAnswered, jobAnswered, jobHeardNumbers, jobHearing}
 use Rattle.numbers.proofs.Back.{level-back, device-back, turn-of-loading}
 use Rattle.numbers.proofs.Names.{SendingBack, sending-back}
 use Rattle.numbers.proofs.Loop.{cycle-of-device}
 
 module _ (image : List ℕ) where
-  -- the library's turn, always with this image
-  abbrev pub turning : Loading → List ℕ → ℕ → LoadTurned
-  turning g seen read = loadTurnOf g image seen read
+  abbrev turning : Loading → List ℕ → ℕ → LoadTurned
+  turning = turnsWith image
 
   -- ---- against the model
   abbrev Same : ℕ → ℕ → LoadTurned → Chip → Type 0
@@ -39,7 +38,7 @@ module _ (image : List ℕ) where
       (rest (turning g seen (shows part h c)) (sending-back g image seen (shows part h c)) (after part h c))
 
   pub job-loop-is-talk : (part n : ℕ) (t : LoadTurned) → SendingBack (t .turn) → (h : Chip)
-      → jobLoop image part n (toldTurned t) (h .cells) (deviceNumbers (h .device)) ≡ jobToldNumbers (loadTalk turning part n t h)
+      → jobLoop image part n (toldTurned t) (h .cells) (deviceNumbers (h .device)) ≡ jobToldNumbers (loadTalk (turnsWith image) part n t h)
   unfolding jobLoop loadTalk
   job-loop-is-talk part zero t b h = refl
   job-loop-is-talk part (suc n) t b h = by (job-loop-is-talk part n) (t .turn .next) b
@@ -56,7 +55,7 @@ module _ (image : List ℕ) where
   SameHeard f n t = jobHearing image f n (toldTurned t) ≡ jobHeardNumbers (loadHeard turning f n t)
 
   pub job-hearing-is-heard : (f : ℕ → ℕ) (n : ℕ) (t : LoadTurned) → SendingBack (t .turn)
-      → jobHearing image f n (toldTurned t) ≡ jobHeardNumbers (loadHeard turning f n t)
+      → jobHearing image f n (toldTurned t) ≡ jobHeardNumbers (loadHeard (turnsWith image) f n t)
   unfolding jobHearing loadHeard
   job-hearing-is-heard f zero t b = refl
   job-hearing-is-heard f (suc n) t b =

@@ -5,14 +5,20 @@ use Rattle.chip.specs.declared.cycle.Cycle.{Cycle}
 use Rattle.chip.specs.Cycle.{cycle}
 use Rattle.driver.specs.declared.machine.Next.{Next}
 use Rattle.driver.specs.declared.machine.Next.the-variants.{Nothing, Send}
+use Rattle.job.specs.declared.loading.Loading.{Loading}
 use Rattle.job.specs.declared.loading.Sending.{Sending}
 use Rattle.job.specs.declared.loading.Sending.the-variants.{SendsNothing, Sends}
 use Rattle.job.specs.Run.{Sent}
+use Rattle.job.specs.Loading.{LoadTurned, loadTurnOf}
 use Rattle.job.specs.Socket.{LoadTold, LoadHeard}
 use Rattle.numbers.specs.declared.cycle.DeviceNumbers.{DeviceNumbers}
 use Rattle.numbers.specs.Machine.{nextOf}
 use Rattle.numbers.specs.Cycle.{high, deviceNumbers, cycledOf}
 use Rattle.numbers.specs.Loading.{TurnedNumbers, toldTurned, turnedOf}
+
+-- the library's turn, always with this image
+abbrev pub turnsWith : List ℕ → Loading → List ℕ → ℕ → LoadTurned
+turnsWith image g seen read = loadTurnOf g image seen read
 
 -- the cycle of what a turn names: a controller is not told why it is sent
 abbrev pub nextSent : Sending → Next
