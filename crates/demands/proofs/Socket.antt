@@ -1,16 +1,17 @@
 -- What is said of the loader for a real socket is proved. It stands in specs/Socket.antt.
 use Prim.Native.Nat.{ℕ}
-use mathlib.Core.Path.{_≡_, refl, sym, ap, ap₂, _∙_}
+use mathlib.Core.Path.{_≡_, refl, sym, ap, _∙_}
 use mathlib.Core.Bool.{false}
 use mathlib.Core.List.{List}
 use borrow.Author.Tests.{ne-eqb, eqb-true}
-use lib.Dec.{eqb}
+use lib.Dec.{eqb, ltb}
 use lib.ListN.{length}
-use Rattle.parts.proofs.Every.{split}
-use Rattle.chip.specs.Cycle.{Chip}
+use Rattle.parts.proofs.Every.{split, apart}
+use Rattle.chip.specs.Cycle.{Chip, chip}
+use Rattle.parts.specs.Pick.{_when_, _else_}
+use Rattle.chip.specs.Device.{freshDevice}
 use Rattle.job.specs.declared.loading.Progress.the-variants.{Waiting}
 use Rattle.job.specs.declared.loading.Loading.{Loading}
-use Rattle.job.specs.declared.loading.LoadTurn.{LoadTurn}
 use Rattle.job.specs.declared.loading.Begun.{Begun}
 use Rattle.job.specs.declared.loading.Sending.the-variants.{SendsNothing}
 use Rattle.job.specs.Refusal.{jobRefusal}
@@ -20,31 +21,40 @@ use Rattle.job.proofs.Accepts.{not-refused}
 use Rattle.job.proofs.Rest.{chipOf}
 use Rattle.job.proofs.AsItCame.{none-begun, as-it-came}
 use Rattle.job.proofs.OnBus.{sends-first, leaves-played, loads-list, ends-whatever}
-use Rattle.demands.specs.Demand1.{Refuses}
-use Rattle.demands.specs.Socket.{BeginCall, ToBegin, toBegin, refusedBegin, zeroLoading, TurnCall, ToTurn, toTurn, turnLeft, Controller, turns, Socket}
-
--- what a call hands back is the definition's
-left-is : (c : TurnCall) → let g = toTurn c in turnLeft c ≡ loadTurnOf (g .loading) (g .image) (g .seen) (g .read)
-left-is c = ap₂ {A = List ℕ} {B = LoadTurn} {C = LoadTurned} loadTurned (c .promise .1) (c .promise .0)
+use Rattle.numbers.specs.declared.loading.LoadingNumbers.{LoadingNumbers}
+use Rattle.numbers.specs.declared.loading.BeginNumbers.{BeginNumbers}
+use Rattle.numbers.specs.Cycle.{deviceNumbers}
+use Rattle.numbers.specs.Loading.{loadingNumbers, loadingOf, beginNumbers, noTurn, toldTurned, turnNumbers, TurnedNumbers, noStateTurned, turnedNumbers, turnedOf}
+use Rattle.numbers.specs.JobLoop.{turnsWith, jobLoop, jobHearing}
+use Rattle.numbers.proofs.Back.{loading-back, turn-of-loading}
+use Rattle.numbers.proofs.Names.{sending-back}
+use Rattle.numbers.proofs.JobLoop.{job-loop-is-talk, job-hearing-is-heard}
+use Rattle.demands.specs.Calls.{ToBegin, toBegin, refusedBegin, zeroLoading, TurnCall, toTurn, turnLeft}
+use Rattle.demands.specs.Controller.{StationBeginCall, stationToBegin, numbersToTurn, loadingNumbersInRange}
+use Rattle.demands.specs.Socket.{Controller, turns, Socket}
+use Rattle.demands.proofs.Controller.{turnAsked, turn-left, station-turn-left}
 
 keeps : (image : List ℕ) (k : Controller image) (g : Loading) (seen : List ℕ) (read : ℕ) → turns image k g seen read ≡ loadTurnOf g image seen read
 keeps image k g seen read =
-    left-is (k .calls g seen read) ∙ ap (λ (t : ToTurn). loadTurnOf (t .loading) (t .image) (t .seen) (t .read)) (k .given g seen read)
+    turn-left (k .calls g seen read) ∙ ap turnAsked (k .given g seen read)
 
--- a begin's answer, and beside a refusal
-begin-refusing : (c : BeginCall) → let n = refusedBegin (toBegin c) in Refuses Begun (c .back .answer) n (c .back) (record { answer = n; loading = zeroLoading })
-unfolding beginLoad
-begin-refusing c =
-    let n = refusedBegin (toBegin c) in
-    record {
-      exactly = ap (λ (b : Begun). b .answer) (c .promise) ∙ split (λ (b : Begun). b .answer ≡ n) (eqb n 0) _ _ (λ t. sym (eqb-true n 0 t)) (λ _. refl);
-      beside = λ h. c .promise ∙ rw (ne-eqb n 0 h);
-    }
+-- what a begin hands back
+abbrev beginning : ToBegin → Begun
+beginning g = beginLoad (g .part) (g .first) (g .image) (g .wp) (g .p)
 
-beginning : (c : BeginCall) → let g = toBegin c in refusedBegin g ≡ 0
-    → c .back ≡ record { answer = 0; loading = loading (g .part) (g .first) (length (g .image)) (g .wp) (g .p) Waiting }
+-- its answer, and beside a refusal
+begin-answers : (g : ToBegin) → beginning g .answer ≡ refusedBegin g
 unfolding beginLoad
-beginning c z = c .promise ∙ rw z
+begin-answers g = let n = refusedBegin g in split (λ (b : Begun). b .answer ≡ n) (eqb n 0) _ _ (λ t. sym (eqb-true n 0 t)) (λ _. refl)
+
+begin-beside : (g : ToBegin) → (refusedBegin g ≡ 0 → ⊥) → beginning g ≡ record { answer = refusedBegin g; loading = zeroLoading }
+unfolding beginLoad
+begin-beside g h = rw (ne-eqb (refusedBegin g) 0 h)
+
+begin-taken : (g : ToBegin) → refusedBegin g ≡ 0
+    → beginning g ≡ record { answer = 0; loading = loading (g .part) (g .first) (length (g .image)) (g .wp) (g .p) Waiting }
+unfolding beginLoad
+begin-taken g z = rw z
 
 out-of : (g : Loading) (image seen : List ℕ) (read : ℕ) → loadingInRange g image ≡ false → loadTurnOf g image seen read ≡ loadTurned seen (loadTurn 5 g SendsNothing)
 unfolding loadTurnOf
@@ -54,7 +64,7 @@ out-of g image seen read e = rw e
 turn-refusing : (c : TurnCall) → let g = toTurn c in isEnding (c .back .answer) ≡ false → turnLeft c ≡ loadTurned (g .seen) (loadTurn (c .back .answer) (g .loading) SendsNothing)
 turn-refusing c h =
     let g = toTurn c in
-    let e = sym (left-is c) in
+    let e = sym (turn-left c) in
     let t : isEnding (loadTurnOf (g .loading) (g .image) (g .seen) (g .read) .turn .answer) ≡ false = rw e h in
     rw e at (as-it-came (g .loading) (g .image) (g .seen) (g .read) t)
 
@@ -64,14 +74,64 @@ report-cells : (g : ToBegin) (cells : List ℕ) (n : ℕ) {h : Chip} → jobRefu
 unfolding reportOf
 report-cells g cells n z e = rw z (ap (λ (h : Chip). h .cells) e)
 
+-- ---- the C controller's
+station-out : (n : LoadingNumbers) (image seen : List ℕ) (read : ℕ) → loadingNumbersInRange n image ≡ false → turnedOf n image seen read ≡ noStateTurned n seen
+unfolding turnedOf turnNumbers isEnding
+station-out n image seen read = by (ltb 6 (n .progress)) (ltb 5 (n .driver .phase))
+  where
+    by : (b d : Bool) → (false when b else false when d else loadingInRange (loadingOf n) image) ≡ false
+        → (noStateTurned n seen when b else noStateTurned n seen when d else turnedNumbers n (loadTurnOf (loadingOf n) image seen read)) ≡ noStateTurned n seen
+    by true d e = refl
+    by false true e = refl
+    by false false e = rw (out-of (loadingOf n) image seen read e)
+
+station-refusing : (n : LoadingNumbers) (image seen : List ℕ) (read : ℕ) → isEnding (turnedOf n image seen read .turn .answer) ≡ false
+    → turnedOf n image seen read ≡ record { seen = seen; turn = noTurn (turnedOf n image seen read .turn .answer) n }
+unfolding turnedOf turnNumbers
+station-refusing n image seen read = by (ltb 6 (n .progress)) (ltb 5 (n .driver .phase))
+  where
+    t : LoadTurned
+    t = loadTurnOf (loadingOf n) image seen read
+
+    refused : List ℕ → TurnedNumbers
+    refused s = record { seen = s; turn = noTurn (t .turn .answer) n }
+
+    last : (b : Bool) → isEnding (t .turn .answer) ≡ b → let u = turnedNumbers n t in
+        isEnding (u .turn .answer) ≡ false → u ≡ record { seen = seen; turn = noTurn (u .turn .answer) n }
+    last true e = rw e (λ f. apart (sym f ∙ e))
+    last false e = rw e (λ f. ap (λ (u : LoadTurned). refused (u .seen)) (as-it-came (loadingOf n) image seen read e))
+
+    by : (b d : Bool) → let u = noStateTurned n seen when b else noStateTurned n seen when d else turnedNumbers n t in
+        isEnding (u .turn .answer) ≡ false → u ≡ record { seen = seen; turn = noTurn (u .turn .answer) n }
+    by true d = λ _. refl
+    by false true = λ _. refl
+    by false false = last (isEnding (t .turn .answer)) refl
+
+-- the numbers that a begin hands back mean its job
+begun-back : (c : StationBeginCall) → c .back .loading ≡ loadingNumbers (beginning (stationToBegin c) .loading)
+begun-back c = ap (λ (b : BeginNumbers). b .loading) (c .promise)
+
+begun-meant : (c : StationBeginCall) → loadingOf (c .back .loading) ≡ beginning (stationToBegin c) .loading
+begun-meant c = ap loadingOf (begun-back c) ∙ loading-back (beginning (stationToBegin c) .loading)
+
+-- so its first turn is the numbers of the job's
+begun-turns : (c : StationBeginCall) (seen : List ℕ) (read : ℕ) → let image = stationToBegin c .image in
+    turnedOf (c .back .loading) image seen read ≡ toldTurned (turnsWith image (loadingOf (c .back .loading)) seen read)
+begun-turns c seen read =
+    let g = stationToBegin c in
+    let b = beginning g .loading in
+    ap (λ (n : LoadingNumbers). turnedOf n (g .image) seen read) (begun-back c)
+    ∙ (turn-of-loading b (g .image) seen read ∙ sym (ap (λ (l : Loading). toldTurned (turnsWith (g .image) l seen read)) (begun-meant c)))
+
 pub socket : Socket
 socket =
     record {
-      begin-refuses = begin-refusing;
+      begin-refuses = λ c. let g = toBegin c in
+          record { exactly = ap (λ (b : Begun). b .answer) (c .promise) ∙ begin-answers g; beside = λ h. c .promise ∙ begin-beside g h };
       zero-refused = λ c e. let g = toTurn c in
-          left-is c ∙ (ap (λ (l : Loading). loadTurnOf l (g .image) (g .seen) (g .read)) e ∙ none-begun (g .image) (g .seen) (g .read));
-      begin-given = beginning;
-      out-of-range = λ c e. let g = toTurn c in left-is c ∙ out-of (g .loading) (g .image) (g .seen) (g .read) e;
+          turn-left c ∙ (ap (λ (l : Loading). loadTurnOf l (g .image) (g .seen) (g .read)) e ∙ none-begun (g .image) (g .seen) (g .read));
+      begin-given = λ c z. c .promise ∙ begin-taken (toBegin c) z;
+      out-of-range = λ c e. let g = toTurn c in turn-left c ∙ out-of (g .loading) (g .image) (g .seen) (g .read) e;
       turn-refuses = turn-refusing;
       sends-first = λ c accepted k cells whole seen long read n. let g = toBegin c in
           let T = turns (g .image) k in
@@ -84,4 +144,21 @@ socket =
           rw (c .promise) (loads-list (g .part) (g .first) (g .image) (g .wp) (g .p) accepted (turns (g .image) k) (keeps (g .image) k) cells whole seen long read n h);
       ends = λ c accepted k f seen read n h. let g = toBegin c in
           rw (c .promise) (ends-whatever (g .part) (g .first) (g .image) (g .wp) (g .p) accepted (turns (g .image) k) (keeps (g .image) k) f seen read n h);
+      station-begin-refuses = λ c. let g = stationToBegin c in
+          record { exactly = ap (λ (b : BeginNumbers). b .answer) (c .promise) ∙ begin-answers g; beside = λ h. c .promise ∙ ap beginNumbers (begin-beside g h) };
+      station-out-of-range = λ c e. let g = numbersToTurn c in station-turn-left c ∙ station-out (g .loading) (g .image) (g .seen) (g .read) e;
+      station-turn-refuses = λ c h. let g = numbersToTurn c in
+          let e = sym (station-turn-left c) in
+          let t : isEnding (turnedOf (g .loading) (g .image) (g .seen) (g .read) .turn .answer) ≡ false = rw e h in
+          rw e at (station-refusing (g .loading) (g .image) (g .seen) (g .read) t);
+      station-loops = λ c cells seen read n. let g = stationToBegin c in let b = loadingOf (c .back .loading) in
+          ap (λ (t : TurnedNumbers). jobLoop (g .image) (g .part) n t cells (deviceNumbers freshDevice)) (begun-turns c seen read)
+          ∙ job-loop-is-talk (g .image) (g .part) n (turnsWith (g .image) b seen read) (sending-back b (g .image) seen read) (chip cells freshDevice);
+      station-loads = λ c accepted cells whole seen long read n h. let g = stationToBegin c in
+          rw (begun-meant c) (loads-list (g .part) (g .first) (g .image) (g .wp) (g .p) accepted (turnsWith (g .image)) (λ _ _ _. refl) cells whole seen long read n h);
+      station-ends = λ c accepted f seen read n h. let g = stationToBegin c in let b = loadingOf (c .back .loading) in (
+        rw (begun-meant c) (ends-whatever (g .part) (g .first) (g .image) (g .wp) (g .p) accepted (turnsWith (g .image)) (λ _ _ _. refl) f seen read n h),
+        ap (jobHearing (g .image) f n) (begun-turns c seen read)
+            ∙ job-hearing-is-heard (g .image) f n (turnsWith (g .image) b seen read) (sending-back b (g .image) seen read),
+      );
     }

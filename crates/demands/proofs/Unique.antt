@@ -5,6 +5,7 @@ use Rattle.commands.proofs.Determined as commands
 use Rattle.chip.proofs.Determined as chip
 use Rattle.driver.proofs.Determined as driver
 use Rattle.job.proofs.Determined as job
+use Rattle.numbers.proofs.Determined as numbers
 use Rattle.jobfile.proofs.Determined as jobfile
 use Rattle.billing.proofs.Determined as billing
 use Rattle.station.proofs.Determined as station
@@ -40,6 +41,12 @@ unique =
       load-first = job.load-first-unique;
       begin-load = job.begin-load-unique;
       turn = job.turn-unique;
+      start-numbers = numbers.start-numbers-unique;
+      stepped = numbers.stepped-unique;
+      device-numbers = numbers.device-numbers-unique;
+      cycled = numbers.cycled-unique;
+      begin-numbers = numbers.begin-numbers-unique;
+      turned = numbers.turned-unique;
       read-job = jobfile.read-job-unique;
       read-image = jobfile.read-image-unique;
       bill-file = billing.bill-file-unique;
@@ -57,6 +64,8 @@ unique =
       station-cut = station.cut-unique;
       station-load = station.load-unique;
       station-load-first = station.load-first-unique;
+      station-begin = station.begin-unique;
+      station-turn = station.turn-unique;
       station-job = station.job-unique;
       station-image = station.image-unique;
       station-bill = station.bill-unique;

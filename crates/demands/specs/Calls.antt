@@ -3,7 +3,7 @@
 -- of what it handed back.
 use Prim.Native.Nat.{ℕ}
 use mathlib.Core.Path.{_≡_}
-use mathlib.Core.Bool.{Bool}
+use mathlib.Core.Bool.{Bool, false}
 use mathlib.Core.List.{List}
 use lib.ListN.{length}
 use lib.Dec.{ltb}
@@ -36,12 +36,19 @@ use Rattle.driver.proofs.command_writes.Kinds as writes-kinds
 use Rattle.driver.proofs.command_writes.Reads as writes-reads
 use Rattle.driver.proofs.kth_write.Kinds as kth-kinds
 use Rattle.driver.proofs.kth_write.Reads as kth-reads
-use Rattle.job.specs.Refusal.{jobRefusal}
+use Rattle.job.specs.declared.loading.Progress.the-variants.{Waiting}
+use Rattle.job.specs.declared.loading.Loading.{Loading}
+use Rattle.job.specs.Refusal.{jobRefusal, beginRefusal}
 use Rattle.job.specs.Bill.{Loaded, Reported}
+use Rattle.job.specs.Loading.{loading, LoadTurned, loadTurned}
 use Rattle.job.proofs.load.Kinds as load-kinds
 use Rattle.job.proofs.load.Reads as load-reads
 use Rattle.job.proofs.load_first.Kinds as first-kinds
 use Rattle.job.proofs.load_first.Reads as first-reads
+use Rattle.job.proofs.begin_load.Kinds as begin-kinds
+use Rattle.job.proofs.begin_load.Reads as begin-reads
+use Rattle.job.proofs.loading.Loading.turn.Kinds as turn-kinds
+use Rattle.job.proofs.loading.Loading.turn.Reads as turn-reads
 use Rattle.jobfile.specs.JobFile.{malformed, jobOf, valuesOf}
 use Rattle.jobfile.proofs.read_job.Kinds as file-kinds
 use Rattle.jobfile.proofs.read_job.Reads as file-reads
@@ -232,6 +239,47 @@ loadFirstLeft c = record { cells = c .ends .1 .0 .now; report = c .back }
 -- the refusal of both: 1, 2, 10, 6, 7, 8, 9
 abbrev pub refusedJob : ToLoad → ℕ
 refusedJob j = jobRefusal (j .part) (length (j .cells)) (j .first) (j .image) (j .wp) (j .p)
+
+-- ---- begin_load(part, first, image, wp, p)
+abbrev pub BeginCall : Type 0
+BeginCall = Call 1 begin-kinds.ps begin-kinds.r begin-reads.Post
+
+pub record ToBegin : Type 0 where
+  pub part : ℕ
+  pub first : ℕ
+  pub image : List ℕ
+  pub wp : Bool
+  pub p : ℕ
+
+abbrev pub toBegin : BeginCall → ToBegin
+toBegin c =
+    let a = c .given in
+    record { part = a .0; first = a .1 .0; image = a .1 .1 .0 .now; wp = a .1 .1 .1 .0; p = a .1 .1 .1 .1 .0 }
+
+-- its refusal: 1, 10, 6, 7, 8, 9
+abbrev pub refusedBegin : ToBegin → ℕ
+refusedBegin g = beginRefusal (g .part) (g .first) (g .image) (g .wp) (g .p)
+
+-- no job: the all-zero state
+abbrev pub zeroLoading : Loading
+zeroLoading = loading 0 0 0 false 0 Waiting
+
+-- ---- turn(loading, image, seen, read)
+abbrev pub TurnCall : Type 0
+TurnCall = Call 2 turn-kinds.ps turn-kinds.r turn-reads.Post
+
+pub record ToTurn : Type 0 where
+  pub loading : Loading
+  pub image : List ℕ
+  pub seen : List ℕ
+  pub read : ℕ
+
+abbrev pub toTurn : TurnCall → ToTurn
+toTurn c = let a = c .given in record { loading = a .0; image = a .1 .0 .now; seen = a .1 .1 .0 .now; read = a .1 .1 .1 .0 }
+
+-- the kept readings as the call left them, and what it handed back
+abbrev pub turnLeft : TurnCall → LoadTurned
+turnLeft c = loadTurned (c .ends .1 .1 .0 .now) (c .back)
 
 -- ---- part_row(part)
 abbrev pub RowCall : Type 0

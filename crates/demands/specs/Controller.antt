@@ -14,9 +14,13 @@ use Rattle.chip.specs.Device.{freshDevice}
 use Rattle.chip.specs.Cycle.{cycle}
 use Rattle.driver.specs.declared.machine.Driver.{Driver}
 use Rattle.driver.specs.Machine.{inRange}
+use Rattle.job.specs.declared.loading.Loading.{Loading}
 use Rattle.job.specs.Bill.{Loaded, Reported}
+use Rattle.job.specs.Loading.{loadingInRange}
 use Rattle.numbers.specs.declared.machine.DriverNumbers.{DriverNumbers}
 use Rattle.numbers.specs.declared.cycle.DeviceNumbers.{DeviceNumbers}
+use Rattle.numbers.specs.declared.loading.LoadingNumbers.{LoadingNumbers}
+use Rattle.numbers.specs.Loading.{loadingNumbers, loadingOf, beginNumbers, TurnedNumbers, turnedNumbers}
 use Rattle.numbers.specs.Machine.{driverNumbers, driverOf, startNumbers, stepNumbers}
 use Rattle.numbers.specs.Cycle.{high, deviceNumbers, deviceOf, Cycled, cycledNumbers}
 use Rattle.station.proofs.station_start.Kinds as start-kinds
@@ -37,6 +41,10 @@ use Rattle.station.proofs.station_load.Kinds as load-kinds
 use Rattle.station.proofs.station_load.Reads as load-reads
 use Rattle.station.proofs.station_load_first.Kinds as first-kinds
 use Rattle.station.proofs.station_load_first.Reads as first-reads
+use Rattle.station.proofs.station_begin.Kinds as begin-kinds
+use Rattle.station.proofs.station_begin.Reads as begin-reads
+use Rattle.station.proofs.station_turn.Kinds as turn-kinds
+use Rattle.station.proofs.station_turn.Reads as turn-reads
 use Rattle.station.proofs.station_job.Kinds as job-kinds
 use Rattle.station.proofs.station_job.Reads as job-reads
 use Rattle.station.proofs.station_image.Kinds as image-kinds
@@ -45,6 +53,7 @@ use Rattle.station.proofs.station_bill.Kinds as bill-kinds
 use Rattle.station.proofs.station_bill.Reads as bill-reads
 use Rattle.demands.specs.Calls.{Call, BusCall, OnBus, onBus, busLeft, StartCall, toStart, StepCall, toStep}
 use Rattle.demands.specs.Calls.{LoadCall, LoadFirstCall, ToLoad, toLoad, ToLoadFirst, toLoadFirst, loadLeft, loadFirstLeft}
+use Rattle.demands.specs.Calls.{BeginCall, ToBegin, toBegin, TurnCall, ToTurn, toTurn, turnLeft}
 use Rattle.demands.specs.Calls.{FileCall, ToRead, toRead, ImageCall, ToReadImage, toReadImage, imageLeft, BillFileCall, toBill}
 
 -- ---- station_start(part, command, address, data, p)
@@ -138,6 +147,42 @@ stationLoadLeft c = record { cells = c .ends .1 .0 .now; bill = c .back }
 abbrev pub stationLoadFirstLeft : StationLoadFirstCall → Reported
 stationLoadFirstLeft c = record { cells = c .ends .1 .0 .now; report = c .back }
 
+-- ---- station_begin(part, first, image, wp, p), and station_turn(loading, image, seen, read)
+abbrev pub StationBeginCall : Type 0
+StationBeginCall = Call 1 begin-kinds.ps begin-kinds.r begin-reads.Post
+
+abbrev pub stationToBegin : StationBeginCall → ToBegin
+stationToBegin c =
+    let a = c .given in
+    record { part = a .0; first = a .1 .0; image = a .1 .1 .0 .now; wp = high (a .1 .1 .1 .0); p = a .1 .1 .1 .1 .0 }
+
+abbrev pub StationTurnCall : Type 0
+StationTurnCall = Call 2 turn-kinds.ps turn-kinds.r turn-reads.Post
+
+pub record NumbersToTurn : Type 0 where
+  pub loading : LoadingNumbers
+  pub image : List ℕ
+  pub seen : List ℕ
+  pub read : ℕ
+
+abbrev pub numbersToTurn : StationTurnCall → NumbersToTurn
+numbersToTurn c = let a = c .given in record { loading = a .0; image = a .1 .0 .now; seen = a .1 .1 .0 .now; read = a .1 .1 .1 .0 }
+
+-- the kept readings as the call left them, and what it handed back
+abbrev pub stationTurnLeft : StationTurnCall → TurnedNumbers
+stationTurnLeft c = record { seen = c .ends .1 .1 .0 .now; turn = c .back }
+
+-- the turn of the job that the numbers mean
+abbrev pub turnMeant : NumbersToTurn → ToTurn
+turnMeant g = record { loading = loadingOf (g .loading); image = g .image; seen = g .seen; read = g .read }
+
+-- numbers of a job's state in range: farther than 6, or a driver's phase above 5, is none
+abbrev pub loadingNumbersInRange : LoadingNumbers → List ℕ → Bool
+loadingNumbersInRange n image =
+    false when ltb 6 (n .progress)
+    else false when ltb 5 (n .driver .phase)
+    else loadingInRange (loadingOf n) image
+
 -- ---- station_job(file), station_image(file, start, image), station_bill(file)
 abbrev pub StationJobCall : Type 0
 StationJobCall = Call 1 job-kinds.ps job-kinds.r job-reads.Post
@@ -171,10 +216,15 @@ pub record Controller : Type 0 where
   pub load-same : (c : StationLoadCall) (l : LoadCall) → stationToLoad c ≡ toLoad l → stationLoadLeft c ≡ loadLeft l
   pub load-first-same : (c : StationLoadFirstCall) (l : LoadFirstCall) → stationToLoadFirst c ≡ toLoadFirst l
       → stationLoadFirstLeft c ≡ loadFirstLeft l
+  pub begin-same : (c : StationBeginCall) (l : BeginCall) → stationToBegin c ≡ toBegin l → c .back ≡ beginNumbers (l .back)
+  -- A turn of numbers that are a state's is that of the job that they mean.
+  pub turn-same : (c : StationTurnCall) (l : TurnCall) → let g = numbersToTurn c in ltb 6 (g .loading .progress) ≡ false → ltb 5 (g .loading .driver .phase) ≡ false
+      → turnMeant g ≡ toTurn l → stationTurnLeft c ≡ turnedNumbers (g .loading) (turnLeft l)
   pub job-same : (c : StationJobCall) (l : FileCall) → stationToRead c ≡ toRead l → c .back ≡ l .back
   pub image-same : (c : StationImageCall) (l : ImageCall) → stationToReadImage c ≡ toReadImage l
       → c .ends .1 .1 .0 .now ≡ imageLeft l
   pub bill-same : (c : StationBillCall) (l : BillFileCall) → stationToBill c ≡ toBill l → c .back ≡ l .back
-  -- Every state of the library has numbers that mean it, and a driver's and a device's that are handed back mean it again.
+  -- Every state of the library has numbers that mean it: those of a driver, of a job and of a device mean it again.
   pub driver-returns : (d : Driver) → driverOf (driverNumbers d) ≡ d
+  pub loading-returns : (g : Loading) → loadingOf (loadingNumbers g) ≡ g
   pub device-returns : (d : Device) → deviceOf (deviceNumbers d) ≡ d

@@ -4,7 +4,7 @@
 -- of a job too.
 use Prim.Native.Nat.{ℕ, _≤_}
 use mathlib.Core.Path.{_≡_}
-use mathlib.Core.Bool.{Bool, false}
+use mathlib.Core.Bool.{false}
 use mathlib.Core.List.{List}
 use lib.ListN.{length, take}
 use Rattle.parts.specs.Names.{BAD-STATE}
@@ -16,62 +16,21 @@ use Rattle.job.specs.declared.loading.Progress.the-variants.{Waiting}
 use Rattle.job.specs.declared.loading.Loading.{Loading}
 use Rattle.job.specs.declared.loading.Begun.{Begun}
 use Rattle.job.specs.declared.loading.Sending.the-variants.{SendsNothing}
-use Rattle.job.specs.Refusal.{beginRefusal}
 use Rattle.job.specs.Sent.{sentOf}
 use Rattle.job.specs.Bill.{jobFrom, reportOf}
 use Rattle.job.specs.Loading.{loading, isEnding, loadingInRange, loadTurn, LoadTurned, loadTurned}
 use Rattle.job.specs.Socket.{loadTalk, loadHeard, cyclesMost, HasLoaded, HasEnded}
-use Rattle.job.proofs.begin_load.Kinds as begin-kinds
-use Rattle.job.proofs.begin_load.Reads as begin-reads
-use Rattle.job.proofs.loading.Loading.turn.Kinds as turn-kinds
-use Rattle.job.proofs.loading.Loading.turn.Reads as turn-reads
-use Rattle.demands.specs.Calls.{Call}
+use Rattle.demands.specs.Calls.{BeginCall, ToBegin, toBegin, refusedBegin, zeroLoading, TurnCall, toTurn, turnLeft}
+use Rattle.numbers.specs.declared.loading.BeginNumbers.{BeginNumbers}
+use Rattle.numbers.specs.Cycle.{deviceNumbers}
+use Rattle.numbers.specs.Loading.{loadingNumbers, loadingOf, noTurn, noStateTurned, turnedOf}
+use Rattle.numbers.specs.JobLoop.{turnsWith, jobToldNumbers, jobLoop, jobHeardNumbers, jobHearing}
+use Rattle.demands.specs.Controller.{StationBeginCall, stationToBegin, StationTurnCall, numbersToTurn, loadingNumbersInRange, stationTurnLeft}
 use Rattle.demands.specs.Demand1.{Refuses}
-
--- ---- begin_load(part, first, image, wp, p)
-abbrev pub BeginCall : Type 0
-BeginCall = Call 1 begin-kinds.ps begin-kinds.r begin-reads.Post
-
-pub record ToBegin : Type 0 where
-  pub part : ℕ
-  pub first : ℕ
-  pub image : List ℕ
-  pub wp : Bool
-  pub p : ℕ
-
-abbrev pub toBegin : BeginCall → ToBegin
-toBegin c =
-    let a = c .given in
-    record { part = a .0; first = a .1 .0; image = a .1 .1 .0 .now; wp = a .1 .1 .1 .0; p = a .1 .1 .1 .1 .0 }
-
--- its refusal: 1, 10, 6, 7, 8, 9
-abbrev pub refusedBegin : ToBegin → ℕ
-refusedBegin g = beginRefusal (g .part) (g .first) (g .image) (g .wp) (g .p)
 
 -- the job that is begun
 abbrev pub jobBegun : ToBegin → Job
 jobBegun g = jobFrom (g .part) (g .first) (length (g .image)) (g .wp) (g .p)
-
--- no job: the all-zero state
-abbrev pub zeroLoading : Loading
-zeroLoading = loading 0 0 0 false 0 Waiting
-
--- ---- turn(loading, image, seen, read)
-abbrev pub TurnCall : Type 0
-TurnCall = Call 2 turn-kinds.ps turn-kinds.r turn-reads.Post
-
-pub record ToTurn : Type 0 where
-  pub loading : Loading
-  pub image : List ℕ
-  pub seen : List ℕ
-  pub read : ℕ
-
-abbrev pub toTurn : TurnCall → ToTurn
-toTurn c = let a = c .given in record { loading = a .0; image = a .1 .0 .now; seen = a .1 .1 .0 .now; read = a .1 .1 .1 .0 }
-
--- the kept readings as the call left them, and what it handed back
-abbrev pub turnLeft : TurnCall → LoadTurned
-turnLeft c = loadTurned (c .ends .1 .1 .0 .now) (c .back)
 
 -- a controller: for each state, kept readings and value read it calls turn, always with one image
 pub record Controller (image : List ℕ) : Type 0 where
@@ -119,3 +78,28 @@ pub record Socket : Type 0 where
       → (k : Controller (g .image)) (f : ℕ → ℕ) (seen : List ℕ) (read n : ℕ) → cyclesMost (jobBegun g) ≤ n
       → HasEnded (turns (g .image) k) (jobBegun g) (g .image)
       (loadHeard (turns (g .image) k) f n (turns (g .image) k (c .back .loading) seen read))
+  -- The C controller's: a refused begin answers its number and hands back zeros;
+  pub station-begin-refuses : (c : StationBeginCall) → let n = refusedBegin (stationToBegin c) in
+      Refuses BeginNumbers (c .back .answer) n (c .back) (record { answer = n; loading = loadingNumbers zeroLoading })
+  -- a turn answers 5 for numbers that are no state in range;
+  pub station-out-of-range : (c : StationTurnCall) → let g = numbersToTurn c in loadingNumbersInRange (g .loading) (g .image) ≡ false
+      → stationTurnLeft c ≡ noStateTurned (g .loading) (g .seen)
+  -- and one that refuses hands back the numbers and the kept readings as they came.
+  pub station-turn-refuses : (c : StationTurnCall) → let g = numbersToTurn c in isEnding (c .back .answer) ≡ false
+      → stationTurnLeft c ≡ record { seen = g .seen; turn = noTurn (c .back .answer) (g .loading) }
+  -- A C controller that turns from its begin on, sends each cycle that is named to the chip and gives what it was shown to the
+  -- next turn (`jobLoop`): after n cycles its numbers are those of the loader that the sentences above speak of;
+  pub station-loops : (c : StationBeginCall) → let g = stationToBegin c in (cells seen : List ℕ) (read n : ℕ)
+      → jobLoop (g .image) (g .part) n (turnedOf (c .back .loading) (g .image) seen read) cells (deviceNumbers freshDevice)
+      ≡ jobToldNumbers (loadTalk (turnsWith (g .image)) (g .part) n (turnsWith (g .image) (loadingOf (c .back .loading)) seen read) (chip cells freshDevice))
+  -- so it has sent the list, left what `load` leaves, and ended with 0.
+  pub station-loads : (c : StationBeginCall) → let g = stationToBegin c in refusedBegin g ≡ 0
+      → (cells : List ℕ) → length cells ≡ rowOf (g .part) .cells → (seen : List ℕ) → length seen ≡ 4096 → (read n : ℕ) → cyclesMost (jobBegun g) ≤ n
+      → HasLoaded (g .part) cells (g .first) (g .image) (g .wp) (g .p)
+      (loadTalk (turnsWith (g .image)) (g .part) n (turnsWith (g .image) (loadingOf (c .back .loading)) seen read) (chip cells freshDevice))
+  -- And so whatever is replied: it has ended after as many cycles as the loader, with what the loader ends with.
+  pub station-ends : (c : StationBeginCall) → let g = stationToBegin c in refusedBegin g ≡ 0
+      → (f : ℕ → ℕ) (seen : List ℕ) (read n : ℕ) → cyclesMost (jobBegun g) ≤ n
+      → let t = loadHeard (turnsWith (g .image)) f n (turnsWith (g .image) (loadingOf (c .back .loading)) seen read) in
+      HasEnded (turnsWith (g .image)) (jobBegun g) (g .image) t
+      × (jobHearing (g .image) f n (turnedOf (c .back .loading) (g .image) seen read) ≡ jobHeardNumbers t)

@@ -61,6 +61,18 @@ use Rattle.job.proofs.begin_load.Kinds as begin-load-kinds
 use Rattle.job.proofs.begin_load.Reads as begin-load-reads
 use Rattle.job.proofs.loading.Loading.turn.Kinds as turn-kinds
 use Rattle.job.proofs.loading.Loading.turn.Reads as turn-reads
+use Rattle.numbers.proofs.start_numbers.Kinds as n-start-kinds
+use Rattle.numbers.proofs.start_numbers.Reads as n-start-reads
+use Rattle.numbers.proofs.stepped.Kinds as n-stepped-kinds
+use Rattle.numbers.proofs.stepped.Reads as n-stepped-reads
+use Rattle.numbers.proofs.device_numbers.Kinds as n-device-kinds
+use Rattle.numbers.proofs.device_numbers.Reads as n-device-reads
+use Rattle.numbers.proofs.cycled.Kinds as n-cycled-kinds
+use Rattle.numbers.proofs.cycled.Reads as n-cycled-reads
+use Rattle.numbers.proofs.begin_numbers.Kinds as n-begin-kinds
+use Rattle.numbers.proofs.begin_numbers.Reads as n-begin-reads
+use Rattle.numbers.proofs.turned.Kinds as n-turned-kinds
+use Rattle.numbers.proofs.turned.Reads as n-turned-reads
 use Rattle.jobfile.proofs.read_job.Kinds as read-job-kinds
 use Rattle.jobfile.proofs.read_job.Reads as read-job-reads
 use Rattle.jobfile.proofs.read_image.Kinds as read-image-kinds
@@ -95,6 +107,10 @@ use Rattle.station.proofs.station_load.Kinds as c-load-kinds
 use Rattle.station.proofs.station_load.Reads as c-load-reads
 use Rattle.station.proofs.station_load_first.Kinds as c-load-first-kinds
 use Rattle.station.proofs.station_load_first.Reads as c-load-first-reads
+use Rattle.station.proofs.station_begin.Kinds as c-begin-kinds
+use Rattle.station.proofs.station_begin.Reads as c-begin-reads
+use Rattle.station.proofs.station_turn.Kinds as c-turn-kinds
+use Rattle.station.proofs.station_turn.Reads as c-turn-reads
 use Rattle.station.proofs.station_job.Kinds as c-job-kinds
 use Rattle.station.proofs.station_job.Reads as c-job-reads
 use Rattle.station.proofs.station_image.Kinds as c-image-kinds
@@ -148,6 +164,13 @@ pub record Unique : Type 0 where
   pub load-first : OneOutcome 2 load-first-kinds.ps load-first-kinds.r load-first-reads.Post (λ κs s. s .1 .0 .now)
   pub begin-load : OneResult 1 begin-load-kinds.ps begin-load-kinds.r begin-load-reads.Post
   pub turn : OneOutcome 2 turn-kinds.ps turn-kinds.r turn-reads.Post (λ κs s. s .1 .1 .0 .now)
+  -- the states as numbers
+  pub start-numbers : OneResult 0 n-start-kinds.ps n-start-kinds.r n-start-reads.Post
+  pub stepped : OneResult 0 n-stepped-kinds.ps n-stepped-kinds.r n-stepped-reads.Post
+  pub device-numbers : OneResult 0 n-device-kinds.ps n-device-kinds.r n-device-reads.Post
+  pub cycled : OneOutcome 1 n-cycled-kinds.ps n-cycled-kinds.r n-cycled-reads.Post (λ κs s. s .1 .0 .now)
+  pub begin-numbers : OneResult 0 n-begin-kinds.ps n-begin-kinds.r n-begin-reads.Post
+  pub turned : OneOutcome 2 n-turned-kinds.ps n-turned-kinds.r n-turned-reads.Post (λ κs s. s .1 .1 .0 .now)
   -- the job file
   pub read-job : OneResult 1 read-job-kinds.ps read-job-kinds.r read-job-reads.Post
   pub read-image : OneOutcome 2 read-image-kinds.ps read-image-kinds.r read-image-reads.Post (λ κs s. s .1 .1 .0 .now)
@@ -168,6 +191,8 @@ pub record Unique : Type 0 where
   pub station-cut : OneOutcome 1 c-cut-kinds.ps c-cut-kinds.r c-cut-reads.Post (λ κs s. s .1 .0 .now)
   pub station-load : OneOutcome 2 c-load-kinds.ps c-load-kinds.r c-load-reads.Post (λ κs s. s .1 .0 .now)
   pub station-load-first : OneOutcome 2 c-load-first-kinds.ps c-load-first-kinds.r c-load-first-reads.Post (λ κs s. s .1 .0 .now)
+  pub station-begin : OneResult 1 c-begin-kinds.ps c-begin-kinds.r c-begin-reads.Post
+  pub station-turn : OneOutcome 2 c-turn-kinds.ps c-turn-kinds.r c-turn-reads.Post (λ κs s. s .1 .1 .0 .now)
   pub station-job : OneResult 1 c-job-kinds.ps c-job-kinds.r c-job-reads.Post
   pub station-image : OneOutcome 2 c-image-kinds.ps c-image-kinds.r c-image-reads.Post (λ κs s. s .1 .1 .0 .now)
   pub station-bill : OneResult 1 c-bill-kinds.ps c-bill-kinds.r c-bill-reads.Post

@@ -1,6 +1,6 @@
 -- States cross to C and back: the numbers of a state are read as that state, and a refused call hands back the numbers as they came.
 use Prim.Native.Nat.{ℕ, zero, suc, _<_, _≤_}
-use mathlib.Core.Path.{_≡_, refl, ap}
+use mathlib.Core.Path.{_≡_, refl, sym, ap, _∙_}
 use mathlib.Core.Bool.{Bool, true, false}
 use mathlib.Core.List.{List}
 use native.Mathlib.Omega.{arith}
@@ -26,10 +26,22 @@ use Rattle.driver.specs.declared.machine.Phase.the-variants.{Writing, Polling, 
 use Rattle.driver.specs.declared.machine.Driver.{Driver}
 use Rattle.driver.specs.declared.machine.Step.{Step}
 use Rattle.driver.specs.Machine.{driver, inRange, valueWanted, ended, matches, mostPolls, polls, writingOf, pollingOf, confirmingOf, phaseOf, stepOf}
+use Rattle.job.specs.declared.loader.Stage.{Stage}
+use Rattle.job.specs.declared.loader.Stage.the-variants.{Scanning, Looking, Driving}
+use Rattle.job.specs.declared.loader.Task.the-variants.{Erasing, Filling, Burning}
+use Rattle.job.specs.declared.loading.Progress.{Progress}
+use Rattle.job.specs.declared.loading.Progress.the-variants.{Waiting, Within, Over}
+use Rattle.job.specs.declared.loading.Loading.{Loading}
+use Rattle.job.specs.declared.loading.Sending.the-variants.{SendsNothing}
+use Rattle.job.specs.Loader.{loader}
+use Rattle.job.specs.Loading.{loading, isEnding, movedTo, loadTurn, LoadTurned, loadTurned, loadTurnOf}
+use Rattle.job.proofs.AsItCame.{as-it-came}
 use Rattle.numbers.specs.declared.machine.DriverNumbers.{DriverNumbers}
 use Rattle.numbers.specs.declared.cycle.DeviceNumbers.{DeviceNumbers}
 use Rattle.numbers.specs.Machine.{phaseNumber, phaseAt, driverNumbers, driverOf, nextNumbers, nextOf, stepNumbers, noDriverState, steppedOf}
-use Rattle.numbers.specs.Cycle.{deviceNumbers, deviceOf, noState, replyNumbers, cycledNumbers}
+use Rattle.numbers.specs.Cycle.{high, bitNumber, deviceNumbers, deviceOf, noState, replyNumbers, cycledNumbers}
+use Rattle.numbers.specs.declared.loading.LoadingNumbers.{LoadingNumbers}
+use Rattle.numbers.specs.Loading.{stageNumbers, progressNumbers, loadingNumbers, taskAt, stageAt, progressAt, loadingOf, noTurn, turnNumbers, TurnedNumbers, toldTurned, turnedNumbers, noStateTurned, turnedOf}
 
 -- ---- the driver
 phase-back : (f : Phase) → phaseAt (phaseNumber f) ≡ f
@@ -134,6 +146,92 @@ pub no-device : (part lent : ℕ) (n : DeviceNumbers) (a : Action) → deviceOf 
     → cycleRefusal part lent (deviceOf n) a ≡ (partRefusal part orElse WRONG-CELLS unless eqb lent (rowOf part .cells) else BAD-STATE)
 unfolding cycleRefusal deviceInRange stageInRange
 no-device part lent n a h = simp h
+
+-- ---- the job under way
+pub level-back : (b : Bool) → high (bitNumber b) ≡ b
+level-back true = refl
+level-back false = refl
+
+-- as far as the numbers say
+abbrev levelled : Loading → Progress → Bool → Loading
+levelled g x b = loading (g .part) (g .first) (g .count) b (g .p) x
+
+stage-back : (g : Loading) (s : Stage) (base i : ℕ) → loadingOf (stageNumbers g s base i) ≡ movedTo g (Within (loader s base i))
+unfolding progressAt stageAt taskAt
+stage-back g Scanning base i = ap (levelled g (Within (loader Scanning base i))) (level-back (g .wp))
+stage-back g Looking base i = ap (levelled g (Within (loader Looking base i))) (level-back (g .wp))
+stage-back g (Driving Erasing d) base i = simp (level-back (g .wp), driver-back d)
+stage-back g (Driving Filling d) base i = simp (level-back (g .wp), driver-back d)
+stage-back g (Driving Burning d) base i = simp (level-back (g .wp), driver-back d)
+
+progress-back : (g : Loading) (x : Progress) → loadingOf (progressNumbers g x) ≡ movedTo g x
+unfolding progressAt
+progress-back g Waiting = ap (levelled g Waiting) (level-back (g .wp))
+progress-back g (Within l) = stage-back g (l .stage) (l .base) (l .at)
+progress-back g (Over n) = ap (levelled g (Over n)) (level-back (g .wp))
+
+-- the numbers of a job under way are read as that job
+pub loading-back : (g : Loading) → loadingOf (loadingNumbers g) ≡ g
+loading-back g = progress-back g (g .progress)
+
+-- they are numbers of a state: no farther than 6, no phase above 5
+abbrev Known : LoadingNumbers → Type 0
+Known n = (ltb 6 (n .progress) ≡ false) × (ltb 5 (n .driver .phase) ≡ false)
+
+stage-known : (g : Loading) (s : Stage) (base i : ℕ) → Known (stageNumbers g s base i)
+stage-known g Scanning base i = (refl, refl)
+stage-known g Looking base i = (refl, refl)
+stage-known g (Driving Erasing d) base i = (refl, phase-known (d .phase))
+stage-known g (Driving Filling d) base i = (refl, phase-known (d .phase))
+stage-known g (Driving Burning d) base i = (refl, phase-known (d .phase))
+
+progress-known : (g : Loading) (x : Progress) → Known (progressNumbers g x)
+progress-known g Waiting = (refl, refl)
+progress-known g (Within l) = stage-known g (l .stage) (l .base) (l .at)
+progress-known g (Over n) = (refl, refl)
+
+-- a refused turn on the numbers of a job hands back those numbers, as its own job is handed back as it came
+refused-told : (g : Loading) (seen : List ℕ) (t : LoadTurned) → (isEnding (t .turn .answer) ≡ false → t ≡ loadTurned seen (loadTurn (t .turn .answer) g SendsNothing))
+    → turnedNumbers (loadingNumbers g) t ≡ toldTurned t
+unfolding turnNumbers
+refused-told g seen t h = by (isEnding (t .turn .answer)) refl
+  where
+    by : (b : Bool) → isEnding (t .turn .answer) ≡ b → turnedNumbers (loadingNumbers g) t ≡ toldTurned t
+    by true e = rw e
+    by false e =
+        rw e
+        (ap (λ (u : LoadTurned). refused (u .seen)) (h e) ∙ sym (ap toldTurned (h e)))
+      where
+        refused : List ℕ → TurnedNumbers
+        refused s = record { seen = s; turn = noTurn (t .turn .answer) (loadingNumbers g) }
+
+-- a turn on the numbers of a job is the numbers of its turn
+pub turn-of-loading : (g : Loading) (image seen : List ℕ) (read : ℕ) → turnedOf (loadingNumbers g) image seen read ≡ toldTurned (loadTurnOf g image seen read)
+unfolding turnedOf
+turn-of-loading g image seen read =
+    let k = progress-known g (g .progress) in
+    rw (k .0, k .1, loading-back g) (refused-told g seen (loadTurnOf g image seen read) (as-it-came g image seen read))
+
+-- numbers that are no state: 5, no cycle, the numbers and the values seen as they came
+pub no-progress : (n : LoadingNumbers) (image seen : List ℕ) (read : ℕ) → 6 < n .progress → turnedOf n image seen read ≡ noStateTurned n seen
+unfolding turnedOf
+no-progress n image seen read h = rw (lt-ltb _ _ h)
+
+pub no-driver-phase : (n : LoadingNumbers) (image seen : List ℕ) (read : ℕ) → n .progress ≤ 6 → 5 < n .driver .phase → turnedOf n image seen read ≡ noStateTurned n seen
+unfolding turnedOf
+no-driver-phase n image seen read h k = rw (le-ltb _ _ h, lt-ltb _ _ k)
+
+-- and so for any turn that is refused
+pub refused-turn : (n : LoadingNumbers) (image seen : List ℕ) (read : ℕ) → n .progress ≤ 6 → n .driver .phase ≤ 5
+    → isEnding (loadTurnOf (loadingOf n) image seen read .turn .answer) ≡ false
+    → turnedOf n image seen read ≡ record { seen = seen; turn = noTurn (loadTurnOf (loadingOf n) image seen read .turn .answer) n }
+unfolding turnedOf turnNumbers
+refused-turn n image seen read h k e =
+    rw (le-ltb _ _ h, le-ltb _ _ k, e)
+    (ap (λ (u : LoadTurned). refused (u .seen)) (as-it-came (loadingOf n) image seen read e))
+  where
+    refused : List ℕ → TurnedNumbers
+    refused s = record { seen = s; turn = noTurn (loadTurnOf (loadingOf n) image seen read .turn .answer) n }
 
 -- ---- a cycle on the device that the numbers mean
 module _ (part : ℕ) (cells : List ℕ) (n : DeviceNumbers) (c : Cycle) where

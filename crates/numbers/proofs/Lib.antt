@@ -1,3 +1,5 @@
 pub mod Loop
+pub mod JobLoop
+pub mod Names
 pub mod Back
 pub mod Determined

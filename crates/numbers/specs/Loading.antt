@@ -126,6 +126,10 @@ pub record TurnedNumbers : Type 0 where
   pub seen : List ℕ
   pub turn : TurnNumbers
 
+-- of a turn that is not refused
+abbrev pub toldTurned : LoadTurned → TurnedNumbers
+toldTurned t = record { seen = t .seen; turn = toldTurn (t .turn) }
+
 abbrev pub turnedNumbers : LoadingNumbers → LoadTurned → TurnedNumbers
 turnedNumbers n t = record { seen = t .seen; turn = turnNumbers n (t .turn) }
 
