@@ -150,13 +150,15 @@ struct station_started station_start(uint32_t part, uint32_t command, uint32_t a
 struct station_stepped station_step(struct station_driver state, uint16_t read);
 
 /* ---- A whole job on a bus: station_begin once, then station_turn and the cycle that it names, until
-   it names none. It has no cells: it goes by what the bus shows. With job of station_begin:
+   it names none. It is lent no cells and goes by what the bus shows. From b, which station_begin gave:
 
-     for (t = station_turn(job, image, n, seen, 0); t.cycle.kind != STATION_NO_CYCLE;
-          t = station_turn(t.loading, image, n, seen, read)) {
-         set WP# to t.wp, wait t.cycle.elapsed microseconds, then read or write at t.cycle.address;
-         read = what a read showed;
-     } and t.answer is the job's end */
+     t = station_turn(b.loading, image, n, seen, 0);
+     while (t.cycle.kind != STATION_NO_CYCLE) {
+         (set WP# to t.wp, wait t.cycle.elapsed, send the cycle; read is what a read showed)
+         t = station_turn(t.loading, image, n, seen, read);
+     }
+
+   and t.answer is the job's end. It comes whatever the bus shows. */
 
 /* How far a job is. */
 enum station_progress {

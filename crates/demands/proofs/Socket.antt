@@ -1,12 +1,14 @@
 -- What is said of the loader for a real socket is proved. It stands in specs/Socket.antt.
 use Prim.Native.Nat.{ℕ}
 use mathlib.Core.Path.{_≡_, refl, sym, ap, _∙_}
-use mathlib.Core.Bool.{false}
+use mathlib.Core.Bool.{Bool, false}
 use mathlib.Core.List.{List}
 use borrow.Author.Tests.{ne-eqb, eqb-true}
 use lib.Dec.{eqb, ltb}
 use lib.ListN.{length}
-use Rattle.parts.proofs.Every.{split, apart}
+use Rattle.parts.proofs.Every.{split}
+use Rattle.parts.specs.Pick.{_when_, _else_}
+use Rattle.chip.specs.Device.{freshDevice}
 use Rattle.chip.specs.Cycle.{Chip, chip}
 use Rattle.parts.specs.Pick.{_when_, _else_}
 use Rattle.chip.specs.Device.{freshDevice}
@@ -16,7 +18,7 @@ use Rattle.job.specs.declared.loading.Begun.{Begun}
 use Rattle.job.specs.declared.loading.Sending.the-variants.{SendsNothing}
 use Rattle.job.specs.Refusal.{jobRefusal}
 use Rattle.job.specs.Bill.{played, reportOf}
-use Rattle.job.specs.Loading.{loading, beginLoad, isEnding, loadingInRange, loadTurn, LoadTurned, loadTurned, loadTurnOf}
+use Rattle.job.specs.Loading.{loading, beginLoad, isEnding, loadingInRange, loadTurn, loadTurned, loadTurnOf}
 use Rattle.job.proofs.Accepts.{not-refused}
 use Rattle.job.proofs.Rest.{chipOf}
 use Rattle.job.proofs.AsItCame.{none-begun, as-it-came}
@@ -24,9 +26,9 @@ use Rattle.job.proofs.OnBus.{sends-first, leaves-played, loads-list, ends-whate
 use Rattle.numbers.specs.declared.loading.LoadingNumbers.{LoadingNumbers}
 use Rattle.numbers.specs.declared.loading.BeginNumbers.{BeginNumbers}
 use Rattle.numbers.specs.Cycle.{deviceNumbers}
-use Rattle.numbers.specs.Loading.{loadingNumbers, loadingOf, beginNumbers, noTurn, toldTurned, turnNumbers, TurnedNumbers, noStateTurned, turnedNumbers, turnedOf}
+use Rattle.numbers.specs.Loading.{loadingNumbers, loadingOf, beginNumbers, toldTurned, turnNumbers, TurnedNumbers, noStateTurned, turnedNumbers, turnedOf}
 use Rattle.numbers.specs.JobLoop.{turnsWith, jobLoop, jobHearing}
-use Rattle.numbers.proofs.Back.{loading-back, turn-of-loading}
+use Rattle.numbers.proofs.Back.{loading-back, turn-of-loading, refused-turn}
 use Rattle.numbers.proofs.Names.{sending-back}
 use Rattle.numbers.proofs.JobLoop.{job-loop-is-talk, job-hearing-is-heard}
 use Rattle.demands.specs.Calls.{ToBegin, toBegin, refusedBegin, zeroLoading, TurnCall, toTurn, turnLeft}
@@ -85,28 +87,6 @@ station-out n image seen read = by (ltb 6 (n .progress)) (ltb 5 (n .driver .phas
     by false true e = refl
     by false false e = rw (out-of (loadingOf n) image seen read e)
 
-station-refusing : (n : LoadingNumbers) (image seen : List ℕ) (read : ℕ) → isEnding (turnedOf n image seen read .turn .answer) ≡ false
-    → turnedOf n image seen read ≡ record { seen = seen; turn = noTurn (turnedOf n image seen read .turn .answer) n }
-unfolding turnedOf turnNumbers
-station-refusing n image seen read = by (ltb 6 (n .progress)) (ltb 5 (n .driver .phase))
-  where
-    t : LoadTurned
-    t = loadTurnOf (loadingOf n) image seen read
-
-    refused : List ℕ → TurnedNumbers
-    refused s = record { seen = s; turn = noTurn (t .turn .answer) n }
-
-    last : (b : Bool) → isEnding (t .turn .answer) ≡ b → let u = turnedNumbers n t in
-        isEnding (u .turn .answer) ≡ false → u ≡ record { seen = seen; turn = noTurn (u .turn .answer) n }
-    last true e = rw e (λ f. apart (sym f ∙ e))
-    last false e = rw e (λ f. ap (λ (u : LoadTurned). refused (u .seen)) (as-it-came (loadingOf n) image seen read e))
-
-    by : (b d : Bool) → let u = noStateTurned n seen when b else noStateTurned n seen when d else turnedNumbers n t in
-        isEnding (u .turn .answer) ≡ false → u ≡ record { seen = seen; turn = noTurn (u .turn .answer) n }
-    by true d = λ _. refl
-    by false true = λ _. refl
-    by false false = last (isEnding (t .turn .answer)) refl
-
 -- the numbers that a begin hands back mean its job
 begun-back : (c : StationBeginCall) → c .back .loading ≡ loadingNumbers (beginning (stationToBegin c) .loading)
 begun-back c = ap (λ (b : BeginNumbers). b .loading) (c .promise)
@@ -150,7 +130,7 @@ socket =
       station-turn-refuses = λ c h. let g = numbersToTurn c in
           let e = sym (station-turn-left c) in
           let t : isEnding (turnedOf (g .loading) (g .image) (g .seen) (g .read) .turn .answer) ≡ false = rw e h in
-          rw e at (station-refusing (g .loading) (g .image) (g .seen) (g .read) t);
+          rw e at (refused-turn (g .loading) (g .image) (g .seen) (g .read) t);
       station-loops = λ c cells seen read n. let g = stationToBegin c in let b = loadingOf (c .back .loading) in
           ap (λ (t : TurnedNumbers). jobLoop (g .image) (g .part) n t cells (deviceNumbers freshDevice)) (begun-turns c seen read)
           ∙ job-loop-is-talk (g .image) (g .part) n (turnsWith (g .image) b seen read) (sending-back b (g .image) seen read) (chip cells freshDevice);

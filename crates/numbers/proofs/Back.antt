@@ -8,11 +8,11 @@ use lib.Dec.{eqb, ltb}
 use lib.ListN.{length}
 use borrow.Author.Tests.{eq-eqb, ne-eqb, lt-ltb, le-ltb}
 use Rattle.parts.specs.Names.{WRONG-CELLS, BAD-STATE}
-use Rattle.parts.specs.Pick.{_unless_, _else_, _orElse_}
+use Rattle.parts.specs.Pick.{_when_, _unless_, _else_, _orElse_}
 use Rattle.parts.specs.Width.{valueOf}
 use Rattle.parts.specs.Table.{rowOf, partRefusal}
 use Rattle.parts.specs.declared.table.Row.{Row}
-use Rattle.parts.proofs.Every.{split}
+use Rattle.parts.proofs.Every.{apart, split}
 use Rattle.commands.specs.declared.effect.Mode.{Mode}
 use Rattle.commands.specs.declared.effect.Mode.the-variants.{ReadMode, Identification}
 use Rattle.chip.specs.declared.device.Device.{Device}
@@ -221,17 +221,28 @@ pub no-driver-phase : (n : LoadingNumbers) (image seen : List ℕ) (read : ℕ) 
 unfolding turnedOf
 no-driver-phase n image seen read h k = rw (le-ltb _ _ h, lt-ltb _ _ k)
 
--- and so for any turn that is refused
-pub refused-turn : (n : LoadingNumbers) (image seen : List ℕ) (read : ℕ) → n .progress ≤ 6 → n .driver .phase ≤ 5
-    → isEnding (loadTurnOf (loadingOf n) image seen read .turn .answer) ≡ false
-    → turnedOf n image seen read ≡ record { seen = seen; turn = noTurn (loadTurnOf (loadingOf n) image seen read .turn .answer) n }
+-- and so any turn that is refused, with its own number
+pub refused-turn : (n : LoadingNumbers) (image seen : List ℕ) (read : ℕ) → isEnding (turnedOf n image seen read .turn .answer) ≡ false
+    → turnedOf n image seen read ≡ record { seen = seen; turn = noTurn (turnedOf n image seen read .turn .answer) n }
 unfolding turnedOf turnNumbers
-refused-turn n image seen read h k e =
-    rw (le-ltb _ _ h, le-ltb _ _ k, e)
-    (ap (λ (u : LoadTurned). refused (u .seen)) (as-it-came (loadingOf n) image seen read e))
+refused-turn n image seen read = by (ltb 6 (n .progress)) (ltb 5 (n .driver .phase))
   where
+    t : LoadTurned
+    t = loadTurnOf (loadingOf n) image seen read
+
     refused : List ℕ → TurnedNumbers
-    refused s = record { seen = s; turn = noTurn (loadTurnOf (loadingOf n) image seen read .turn .answer) n }
+    refused s = record { seen = s; turn = noTurn (t .turn .answer) n }
+
+    last : (b : Bool) → isEnding (t .turn .answer) ≡ b → let u = turnedNumbers n t in
+        isEnding (u .turn .answer) ≡ false → u ≡ record { seen = seen; turn = noTurn (u .turn .answer) n }
+    last true e = rw e (λ f. apart (sym f ∙ e))
+    last false e = rw e (λ f. ap (λ (u : LoadTurned). refused (u .seen)) (as-it-came (loadingOf n) image seen read e))
+
+    by : (b d : Bool) → let u = noStateTurned n seen when b else noStateTurned n seen when d else turnedNumbers n t in
+        isEnding (u .turn .answer) ≡ false → u ≡ record { seen = seen; turn = noTurn (u .turn .answer) n }
+    by true d = λ _. refl
+    by false true = λ _. refl
+    by false false = last (isEnding (t .turn .answer)) refl
 
 -- ---- a cycle on the device that the numbers mean
 module _ (part : ℕ) (cells : List ℕ) (n : DeviceNumbers) (c : Cycle) where
