@@ -18,13 +18,13 @@ use Rattle.driver.specs.Machine.{confirmAfter}
 use Rattle.driver.proofs.Ready.{rounded-le}
 use Rattle.job.specs.declared.loader.Job.{Job}
 use Rattle.job.specs.declared.run.Held.{Held}
-use Rattle.job.specs.declared.run.Ended.{Ended}
+use Rattle.job.specs.declared.run.RunEnd.{RunEnd}
 use Rattle.job.specs.declared.bill.Bill.{Bill}
 use Rattle.job.specs.declared.bill.Report.{Report}
 use Rattle.job.specs.Fits.{JobFits}
 use Rattle.job.specs.Total.{sumOf}
 use Rattle.job.specs.Refusal.{jobRefusal}
-use Rattle.job.specs.Run.{World, world, noneSent, playOf, runFrom, stopFrom, ended}
+use Rattle.job.specs.Run.{World, world, noneSent, playOf, runFrom, stopFrom, runEnd}
 use Rattle.job.specs.Sent.{sentOf}
 use Rattle.job.specs.Formulas.{N, operationTime}
 use Rattle.job.specs.Bill.{FullTimeFits, jobFrom, firstFew, billOf, billed, reported, played, playedAll, reportOf, loadOf}
@@ -109,13 +109,13 @@ module _ (part first : ℕ) (image cells : List ℕ) (wp : Bool) (p : ℕ) (z : 
     pub few-played : (k : ℕ) → runFrom j image cells (firstFew k) ≡ played part cells first image wp p k
     few-played k = runs-first (firstFew k) ∙ ap (playOf part (world cells noneSent)) (take-few k)
 
-    pub reports : (k : ℕ) (e : Ended) (cells′ : List ℕ) (r : Report) → e ≡ ended (runFrom j image cells (firstFew k) .held) (stopFrom j image cells (firstFew k))
+    pub reports : (k : ℕ) (e : RunEnd) (cells′ : List ℕ) (r : Report) → e ≡ runEnd (runFrom j image cells (firstFew k) .held) (stopFrom j image cells (firstFew k))
         → cells′ ≡ runFrom j image cells (firstFew k) .cells → r ≡ reported (e .held) (e .answer)
         → (r ≡ reportOf part cells first image wp p k .report) × (cells′ ≡ reportOf part cells first image wp p k .cells)
     unfolding reportOf
     reports k e cells′ r qe qc qr =
-        let h : e .held ≡ played part cells first image wp p k .held = ap (λ (e : Ended). e .held) qe ∙ ap (λ (w : World). w .held) (few-played k) in
-        let n : e .answer ≡ 0 = ap (λ (e : Ended). e .answer) qe ∙ never-short (firstFew k) in
+        let h : e .held ≡ played part cells first image wp p k .held = ap (λ (e : RunEnd). e .held) qe ∙ ap (λ (w : World). w .held) (few-played k) in
+        let n : e .answer ≡ 0 = ap (λ (e : RunEnd). e .answer) qe ∙ never-short (firstFew k) in
         rw z
         (qr ∙ ap₂ {A = Held} {B = ℕ} {C = Report} reported h n, qc ∙ ap (λ (w : World). w .cells) (few-played k))
 
@@ -124,12 +124,12 @@ module _ (part first : ℕ) (image cells : List ℕ) (wp : Bool) (p : ℕ) (z : 
     all-played : runFrom j image cells n ≡ playedAll part cells first image wp p
     all-played = runs-first n ∙ ap (playOf part (world cells noneSent)) (take-all n (sentOf j image cells) few)
 
-    pub bills : (e : Ended) (cells′ : List ℕ) (sum : ℕ) (b : Bill) → e ≡ ended (runFrom j image cells n .held) (stopFrom j image cells n) → cells′ ≡ runFrom j image cells n .cells
+    pub bills : (e : RunEnd) (cells′ : List ℕ) (sum : ℕ) (b : Bill) → e ≡ runEnd (runFrom j image cells n .held) (stopFrom j image cells n) → cells′ ≡ runFrom j image cells n .cells
         → sum ≡ sumOf (rowOf part .width) (take (length image) (drop first cells′)) → b ≡ billOf j (e .held .tally) sum (e .answer)
         → (b ≡ loadOf part cells first image wp p .bill) × (cells′ ≡ loadOf part cells first image wp p .cells)
     unfolding loadOf
     bills e cells′ sum b qe qc qs qb =
-        let w : world cells′ (e .held) ≡ playedAll part cells first image wp p = ap₂ {A = List ℕ} {B = Held} {C = World} world qc (ap (λ (e : Ended). e .held) qe) ∙ all-played in
-        let m : e .answer ≡ 0 = ap (λ (e : Ended). e .answer) qe ∙ never-short n in
+        let w : world cells′ (e .held) ≡ playedAll part cells first image wp p = ap₂ {A = List ℕ} {B = Held} {C = World} world qc (ap (λ (e : RunEnd). e .held) qe) ∙ all-played in
+        let m : e .answer ≡ 0 = ap (λ (e : RunEnd). e .answer) qe ∙ never-short n in
         rw z
         (qb ∙ (ap₂ {A = ℕ} {B = ℕ} {C = Bill} (billOf j (e .held .tally)) qs m ∙ ap (billed part first image wp p) w), ap (λ (w : World). w .cells) w)

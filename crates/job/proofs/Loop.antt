@@ -18,7 +18,7 @@ use Rattle.job.specs.declared.run.Tally.{Tally}
 use Rattle.job.specs.declared.run.Held.{Held}
 use Rattle.job.specs.Loader.{Turned, turned, nextSector, turnOf}
 use Rattle.job.specs.Fits.{CountsFit}
-use Rattle.job.specs.Run.{World, world, noneSent, countedOf, sendOf, runOf, runFrom, stopNumber, stopOf, stopFrom, ended}
+use Rattle.job.specs.Run.{World, world, noneSent, countedOf, sendOf, runOf, runFrom, stopNumber, stopOf, stopFrom, runEnd}
 
 -- ---- counts
 pub counts-up : (t : Tally) (m n : ℕ) → m ≤ n → CountsFit t m → CountsFit t n
@@ -54,29 +54,29 @@ module _ (t : Tally) (n e : ℕ) (w : CountsFit t n) (short : e ≤ 4294967295) 
 
 -- ---- the loop
 -- where a run ends: the world, and the number with which the loader stopped
-pub record End : Type 0 where
+pub record AtEnd : Type 0 where
   pub place : World
   pub number : ℕ
 
-abbrev end : World → ℕ → End
+abbrev end : World → ℕ → AtEnd
 end w n = record { place = w; number = n }
 
-abbrev pub endOf : Job → List ℕ → ℕ → Turned → World → End
+abbrev pub endOf : Job → List ℕ → ℕ → Turned → World → AtEnd
 endOf j image k t w = end (runOf j image k t w) (stopOf j image k t w)
 
-abbrev pub endFrom : Job → List ℕ → List ℕ → ℕ → End
+abbrev pub endFrom : Job → List ℕ → List ℕ → ℕ → AtEnd
 endFrom j image cells k = end (runFrom j image cells k) (stopFrom j image cells k)
 
 -- a run under way, that ends at P: at most k cycles are sent, and the counts are within them
-abbrev pub Going : Job → List ℕ → ℕ → End → List ℕ → Turn → List ℕ → Held → Type 0
+abbrev pub Going : Job → List ℕ → ℕ → AtEnd → List ℕ → Turn → List ℕ → Held → Type 0
 Going j image k P seen t cells h = (h .sent ≤ k) × (CountsFit (h .tally) (h .sent) × (endOf j image (k - h .sent) (turned seen t) (world cells h) ≡ P))
 
 -- what a run hands back where it ends
-abbrev pub Handed : End → List ℕ → Held → ℕ → Type 0
-Handed P cells h n = (ended h n ≡ ended (P .place .held) (P .number)) × (cells ≡ P .place .cells)
+abbrev pub Handed : AtEnd → List ℕ → Held → ℕ → Type 0
+Handed P cells h n = (runEnd h n ≡ runEnd (P .place .held) (P .number)) × (cells ≡ P .place .cells)
 
-handed : (P : End) (cells : List ℕ) (h : Held) (n : ℕ) → end (world cells h) n ≡ P → Handed P cells h n
-handed P cells h n e = (ap (λ (e : End). ended (e .place .held) (e .number)) e, ap (λ (e : End). e .place .cells) e)
+handed : (P : AtEnd) (cells : List ℕ) (h : Held) (n : ℕ) → end (world cells h) n ≡ P → Handed P cells h n
+handed P cells h n e = (ap (λ (e : AtEnd). runEnd (e .place .held) (e .number)) e, ap (λ (e : AtEnd). e .place .cells) e)
 
 module _ (j : Job) (image : List ℕ) where
   -- nothing sent, the first sector's first read
@@ -85,7 +85,7 @@ module _ (j : Job) (image : List ℕ) where
       let z : k - 0 ≡ k = omega arith in
       rw (e, f) (zero-le, (record { erases = zero-le; programs = zero-le; polls = zero-le; scans = zero-le; confirms = zero-le; time = zero-le }, rw z))
 
-  again : (k n : ℕ) (seen seen′ : List ℕ) (t t′ : Turn) (l : Loader) (p : Purpose) (c : Cycle) (cells cells′ : List ℕ) (h h′ : Held) (P : End) → n < k → t ≡ Play l p c
+  again : (k n : ℕ) (seen seen′ : List ℕ) (t t′ : Turn) (l : Loader) (p : Purpose) (c : Cycle) (cells cells′ : List ℕ) (h h′ : Held) (P : AtEnd) → n < k → t ≡ Play l p c
       → h′ ≡ sendOf (j .part) (world cells h) p c .held → cells′ ≡ sendOf (j .part) (world cells h) p c .cells
       → t′ ≡ turnOf j image seen l (h′ .reply) .turn → seen′ ≡ turnOf j image seen l (h′ .reply) .seen
       → endOf j image (k - n) (turned seen t) (world cells h) ≡ P → endOf j image (k - (n + 1)) (turned seen′ t′) (world cells′ h′) ≡ P
@@ -94,10 +94,10 @@ module _ (j : Job) (image : List ℕ) where
       let w : world cells′ h′ ≡ sendOf (j .part) (world cells h) p c = ap₂ {A = List ℕ} {B = Held} {C = World} world qc qh in
       let m : turned seen′ t′ ≡ turnOf j image seen l (h′ .reply) = ap₂ {A = List ℕ} {B = Turn} {C = Turned} turned qs qt in
       let x : turnOf j image seen l (h′ .reply) ≡ turnOf j image seen l (sendOf (j .part) (world cells h) p c .held .reply) = ap (λ (h : Held). turnOf j image seen l (h .reply)) qh in
-      ap₂ {A = Turned} {B = World} {C = End} (endOf j image (k - (n + 1))) (m ∙ x) w ∙ (rw (i, e) at r)
+      ap₂ {A = Turned} {B = World} {C = AtEnd} (endOf j image (k - (n + 1))) (m ∙ x) w ∙ (rw (i, e) at r)
 
   -- a turn
-  pub turns : (k : ℕ) (seen seen′ : List ℕ) (t t′ : Turn) (l : Loader) (p : Purpose) (c : Cycle) (cells cells′ : List ℕ) (h h′ : Held) (P : End) → h .sent < k → t ≡ Play l p c
+  pub turns : (k : ℕ) (seen seen′ : List ℕ) (t t′ : Turn) (l : Loader) (p : Purpose) (c : Cycle) (cells cells′ : List ℕ) (h h′ : Held) (P : AtEnd) → h .sent < k → t ≡ Play l p c
       → h′ ≡ sendOf (j .part) (world cells h) p c .held → cells′ ≡ sendOf (j .part) (world cells h) p c .cells
       → t′ ≡ turnOf j image seen l (h′ .reply) .turn → seen′ ≡ turnOf j image seen l (h′ .reply) .seen
       → c .elapsed ≤ 4294967295 → Going j image k P seen t cells h → Going j image k P seen′ t′ cells′ h′
@@ -110,12 +110,12 @@ module _ (j : Job) (image : List ℕ) where
       (omega arith, (n, rw z (again k (h .sent) seen seen′ t t′ l p c cells cells′ h h′ P lt e qh qc qt qs (v .1 .1))))
 
   -- the loader has stopped
-  pub stopped : (k n m : ℕ) (seen : List ℕ) (t : Turn) (cells : List ℕ) (h : Held) (P : End) → t ≡ Stop n → m ≡ stopNumber t → endOf j image k (turned seen t) (world cells h) ≡ P → Handed P cells h m
+  pub stopped : (k n m : ℕ) (seen : List ℕ) (t : Turn) (cells : List ℕ) (h : Held) (P : AtEnd) → t ≡ Stop n → m ≡ stopNumber t → endOf j image k (turned seen t) (world cells h) ≡ P → Handed P cells h m
   stopped zero n m seen t cells h P e q r = handed P cells h m (ap (end (world cells h)) q ∙ r)
   stopped (suc k) n m seen t cells h P e q r = handed P cells h m (ap (end (world cells h)) (q ∙ ap stopNumber e) ∙ (rw e at r))
 
   -- k cycles are sent
-  pub passed : (k n m : ℕ) (seen : List ℕ) (t : Turn) (cells : List ℕ) (h : Held) (P : End) → k ≤ n → m ≡ stopNumber t → endOf j image (k - n) (turned seen t) (world cells h) ≡ P → Handed P cells h m
+  pub passed : (k n m : ℕ) (seen : List ℕ) (t : Turn) (cells : List ℕ) (h : Held) (P : AtEnd) → k ≤ n → m ≡ stopNumber t → endOf j image (k - n) (turned seen t) (world cells h) ≡ P → Handed P cells h m
   passed k n m seen t cells h P le q r =
       let z : k - n ≡ 0 = omega arith in
       handed P cells h m (ap (end (world cells h)) q ∙ (rw z at r))

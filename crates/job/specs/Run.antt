@@ -19,7 +19,7 @@ use Rattle.job.specs.declared.loader.Turn.the-variants.{Play, Stop}
 use Rattle.job.specs.declared.run.Tally.{Tally}
 use Rattle.job.specs.declared.run.Last.{Last}
 use Rattle.job.specs.declared.run.Held.{Held}
-use Rattle.job.specs.declared.run.Ended.{Ended}
+use Rattle.job.specs.declared.run.RunEnd.{RunEnd}
 use Rattle.job.specs.Loader.{Turned, turned, nextSector, turnOf}
 
 -- a cycle and why it is sent
@@ -120,8 +120,8 @@ stopOf j image (suc k) t w =
     ]
 
 -- what is held when a run ends, and the number with which the loader stopped
-abbrev pub ended : Held → ℕ → Ended
-ended h n = record { held = h; answer = n }
+abbrev pub runEnd : Held → ℕ → RunEnd
+runEnd h n = record { held = h; answer = n }
 
 -- a run from the start: nothing seen, nothing sent, the first sector's first read
 abbrev pub runFrom : Job → List ℕ → List ℕ → ℕ → World

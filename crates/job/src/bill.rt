@@ -1,8 +1,8 @@
 // The job, the second call, and the bill.
 use crate::loader::Job;
 use crate::refusal::job_refusal;
-use crate::run::Ended;
 use crate::run::Last;
+use crate::run::RunEnd;
 use crate::run::Tally;
 use crate::run::no_last;
 use crate::run::run;
@@ -103,7 +103,7 @@ fn refused_report(answer: u32) -> Report
 }
 
 // The report of what was sent, and the number that the loader stopped with.
-fn write_report(e: Ended) -> Report
+fn write_report(e: RunEnd) -> Report
     ensures { λ r. ⌜ r ≡ reported (e .held) (e .answer) ⌝ }
 {
     let h = e.held;

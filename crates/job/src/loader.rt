@@ -232,13 +232,13 @@ impl Job {
         let next = step.next;
         let d = step.driver;
         match next {
-            Next::Nothing => self.ended(image, task, base, at, step.answer),
+            Next::Nothing => self.operation_ended(image, task, base, at, step.answer),
             Next::Send(elapsed, action) => self.goes_on(task, base, at, d, elapsed, action),
         }
     }
 
     // An operation has ended.
-    fn ended(self, image: &[u16], task: Task, base: u32, at: u32, answer: u32) -> Turn
+    fn operation_ended(self, image: &[u16], task: Task, base: u32, at: u32, answer: u32) -> Turn
         requires { ⌜ JobFits self (length (now image)) ⌝ }
         requires { ⌜ base + self .size ≤ self .count ⌝ }
         requires { ⌜ at < self .size ⌝ }

@@ -28,7 +28,7 @@ fn all_fit(width: u32, image: &[u16]) -> bool
 }
 
 // Whether count cells from first on lie within so many cells.
-fn within(cells: usize, first: usize, count: usize) -> bool
+fn lies_within(cells: usize, first: usize, count: usize) -> bool
     ensures { λ r. ⌜ r ≡ leb (first + count) cells ⌝ }
 {
     if cells < count {
@@ -77,7 +77,7 @@ fn sectors_refusal(row: Row, first: usize, count: usize) -> u32
     if 0 < count % size {
         return NOT_SECTORS;
     }
-    if !within(row.cells as usize, first, count) {
+    if !lies_within(row.cells as usize, first, count) {
         return PAST_CELLS;
     }
     0

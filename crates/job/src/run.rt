@@ -13,7 +13,7 @@ ghost use mathlib.Core.Path.{_≡_};
 ghost use Prim.Native.Nat.{_<_, _≤_};
 ghost use lib.ListN.{length};
 ghost use Rattle.job.specs.Fits.{CountsFit, JobFits};
-ghost use Rattle.job.specs.Run.{begunOf, countedOf, ended, lastOf, noLast, noneSent, runFrom, sendOf, stopFrom, stopNumber, world};
+ghost use Rattle.job.specs.Run.{begunOf, countedOf, runEnd, lastOf, noLast, noneSent, runFrom, sendOf, stopFrom, stopNumber, world};
 
 // What the cycles sent so far have counted, and their µs.
 pub struct Tally {
@@ -45,7 +45,7 @@ pub struct Held {
 }
 
 // What is held when a run ends, and the number with which the loader stopped: 0 while it goes on.
-pub(crate) struct Ended {
+pub(crate) struct RunEnd {
     pub(crate) held: Held,
     pub(crate) answer: u32,
 }
@@ -181,10 +181,10 @@ fn stop_number(turn: Turn) -> u32
 }
 
 // Sends the loader's cycles, at most k.
-pub(crate) fn run(cells: &mut [u16], job: Job, image: &[u16], k: u64) -> Ended
+pub(crate) fn run(cells: &mut [u16], job: Job, image: &[u16], k: u64) -> RunEnd
     requires { ⌜ JobFits job (length (now image)) ⌝ }
     requires { ⌜ k ≤ 2147483648 ⌝ }
-    ensures { λ r. ⌜ (r ≡ ended (runFrom job (now (image .entry)) (now (cells .entry)) k .held) (stopFrom job (now (image .entry)) (now (cells .entry)) k)) × (now (cells .exit) ≡ runFrom job (now (image .entry)) (now (cells .entry)) k .cells) ⌝ }
+    ensures { λ r. ⌜ (r ≡ runEnd (runFrom job (now (image .entry)) (now (cells .entry)) k .held) (stopFrom job (now (image .entry)) (now (cells .entry)) k)) × (now (cells .exit) ≡ runFrom job (now (image .entry)) (now (cells .entry)) k .cells) ⌝ }
 {
     let mut seen = [0u16; 4096];
     let mut held = none_sent();
@@ -192,11 +192,11 @@ pub(crate) fn run(cells: &mut [u16], job: Job, image: &[u16], k: u64) -> Ended
     while held.sent < k {
         let Turn::Play(loader, purpose, cycle) = turn else {
             let answer = stop_number(turn);
-            return Ended { held, answer };
+            return RunEnd { held, answer };
         };
         held = send(job.part, &mut *cells, held, purpose, cycle);
         turn = loader.turn(job, image, &mut seen, held.reply);
     }
     let answer = stop_number(turn);
-    Ended { held, answer }
+    RunEnd { held, answer }
 }

@@ -20,7 +20,7 @@ pub record RightTrailer (t : List ℕ) (before : ℕ) : Type 0 where
   pub zero-bytes : zerosOf t ≡ 0
   pub level : levelOf t ≤ 1
   pub even : distanceOf t % 2 ≡ 0
-  pub within : distanceOf t ≤ before
+  pub in-front : distanceOf t ≤ before
 
 -- neither of two faults
 neither : (a b : Bool) → pick a true b ≡ false → (a ≡ false) × (b ≡ false)
@@ -46,14 +46,14 @@ is-right t before h =
       zero-bytes = no-more (zerosOf t) (b .0);
       level = ltb-false _ _ (d .0);
       even = not-odd (distanceOf t) (e .0);
-      within = ltb-false _ _ (e .1);
+      in-front = ltb-false _ _ (e .1);
     }
 
 not-wrong : (t : List ℕ) (before : ℕ) → RightTrailer t before → wrong t before ≡ false
 unfolding wrong
 not-wrong t before r =
     let e = r .even in
-    simp (r .zero-byte, r .zero-bytes, le-ltb 1 _ (r .level), ne-eqb (distanceOf t % 2) 1 (λ o. omega arith), le-ltb _ _ (r .within))
+    simp (r .zero-byte, r .zero-bytes, le-ltb 1 _ (r .level), ne-eqb (distanceOf t % 2) 1 (λ o. omega arith), le-ltb _ _ (r .in-front))
 
 -- refusal 13 is given exactly where the file is under 16 bytes or its trailer is not right
 pub record SoundFile (file : List ℕ) : Type 0 where
@@ -101,7 +101,7 @@ module _ (file : List ℕ) (sound : SoundFile file) where
 
   -- the image ends where the trailer begins
   pub image-ends : jobOf file .start + 2 * jobOf file .count ≡ length file - 16
-  image-ends = rw job-asked (omega (arith, sound .right .even, sound .right .within))
+  image-ends = rw job-asked (omega (arith, sound .right .even, sound .right .in-front))
 
   -- the values are the file's image
   pub values-image : valuesOf file (jobOf file .start) (jobOf file .count) ≡ twoByTwo (take (2 * jobOf file .count) (drop (jobOf file .start) file))

@@ -67,10 +67,10 @@ module _ (file : List ℕ) (bytes : Below 256 file) (sound : SoundFile file) whe
       let d = distanceOf t in
       let start = length file - 16 - d in
       let r = sound .right in
-      let fits : start + 2 * (d / 2) ≤ length file = omega (arith, r .even, r .within) in
+      let fits : start + 2 * (d / 2) ≤ length file = omega (arith, r .even, r .in-front) in
       let whole : 2 * length (valuesOf file start (d / 2)) ≡ d = omega (arith, values-length file start (d / 2), r .even) in
       let twice : 2 * (d / 2) ≡ d = omega (arith, r .even) in
-      let ends : start + d ≡ length file - 16 = omega (arith, r .within) in
+      let ends : start + d ≡ length file - 16 = omega (arith, r .in-front) in
       let t-length : length t ≡ 16 = omega (arith, length-drop (length file - 16) file, sound .long) in
       let t-made = trailer-made t (below-drop 256 (length file - 16) file bytes) (length file - 16) t-length r in
       let after : t ≡ drop d (drop start file) = sym (drop-drop d start file ∙ ap (λ (k : ℕ). drop k file) ends) in

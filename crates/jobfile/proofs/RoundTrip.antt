@@ -39,9 +39,9 @@ module _ (part : ℕ) (wp : Bool) (first p distance : ℕ) where
 
   trailer-right : (before : ℕ) → distance < 2 ^ 32 → distance % 2 ≡ 0 → distance ≤ before → RightTrailer (trailerBytes part wp first p distance) before
   unfolding number field bytesOf
-  trailer-right before fits even within =
+  trailer-right before fits even in-front =
       let e = distance-back fits in
-      record { zero-byte = refl; zero-bytes = refl; level = rw level-back (level-fits wp); even = rw e even; within = rw e within }
+      record { zero-byte = refl; zero-bytes = refl; level = rw level-back (level-fits wp); even = rw e even; in-front = rw e in-front }
 
   asked-back : (before : ℕ) → part < 2 ^ 16 → first < 2 ^ 32 → p < 2 ^ 16 → distance < 2 ^ 32
       → asked (trailerBytes part wp first p distance) before ≡ asks part wp first p (before - distance) (distance / 2)

@@ -29,12 +29,12 @@ module _ (T p : ℕ) (some : 0 < p) where
   reaches = rw quotient (omega (arith, lt-div-mul-add {a = T + (p - 1)} some))
 
   -- (N - 1) * p < T: said without the difference, so that T may be 0
-  pub within : roundedUp T p * p < T + p
-  within = rw quotient (omega (arith, div-mul-le-self (T + (p - 1)) p))
+  pub not-over : roundedUp T p * p < T + p
+  not-over = rw quotient (omega (arith, div-mul-le-self (T + (p - 1)) p))
 
   -- k polls that reach T are no fewer than N, and k polls that do not are fewer
   pub least : (k : ℕ) → T ≤ k * p → roundedUp T p ≤ k
-  least k h = le-of-suc-le-suc (lt-of-not-le (λ (l : suc k ≤ roundedUp T p). omega (arith, within, suc-mul k p, mul-le-mul-right p l)))
+  least k h = le-of-suc-le-suc (lt-of-not-le (λ (l : suc k ≤ roundedUp T p). omega (arith, not-over, suc-mul k p, mul-le-mul-right p l)))
 
   pub fewer : (k : ℕ) → k * p < T → k < roundedUp T p
   fewer k h = lt-of-not-le (λ (l : roundedUp T p ≤ k). omega (arith, reaches, mul-le-mul-right p l))
@@ -45,7 +45,7 @@ module _ (T p : ℕ) (some : 0 < p) where
   pub below : 0 < T → (roundedUp T p - 1) * p < T
   below h =
       let e : suc (roundedUp T p - 1) ≡ roundedUp T p = omega (arith, positive h) in
-      omega (arith, within, suc-mul (roundedUp T p - 1) p, ap (λ (n : ℕ). n * p) e)
+      omega (arith, not-over, suc-mul (roundedUp T p - 1) p, ap (λ (n : ℕ). n * p) e)
 
   -- how the code counts
   pub counted : 0 < T → (T - 1) / p + 1 ≡ roundedUp T p

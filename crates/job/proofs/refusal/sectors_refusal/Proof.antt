@@ -28,13 +28,13 @@ returns-3 : tie.Need-returns-3
 unfolding sectorsRefusal
 returns-3 c = let at = c .before .before .before in
     let at2 = at .before .before in
-    simp (sym (at2 .sector-size .ensures), le-ltb _ _ (at .before .if1 .left), le-ltb _ _ (at .if2 .left), sym (c .before .within .ensures) ∙ not-true _ (c .if3 .taken))
+    simp (sym (at2 .sector-size .ensures), le-ltb _ _ (at .before .if1 .left), le-ltb _ _ (at .if2 .left), sym (c .before .lies-within .ensures) ∙ not-true _ (c .if3 .taken))
 
 returns-4 : tie.Need-returns-4
 unfolding sectorsRefusal
 returns-4 c = let at = c .before .before .before in
     let at2 = at .before .before in
-    simp (sym (at2 .sector-size .ensures), le-ltb _ _ (at .before .if1 .left), le-ltb _ _ (at .if2 .left), sym (c .before .within .ensures) ∙ not-false _ (c .if3 .left))
+    simp (sym (at2 .sector-size .ensures), le-ltb _ _ (at .before .if1 .left), le-ltb _ _ (at .if2 .left), sym (c .before .lies-within .ensures) ∙ not-false _ (c .if3 .left))
 
 pub sectors-refusal-spec : {M : Type 1} → statement M
 sectors-refusal-spec =

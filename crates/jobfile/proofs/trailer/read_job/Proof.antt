@@ -30,7 +30,7 @@ four-bytes-requires-2 c κs = simp (c .before .before .before .before .before .b
 
 sub-start : tie.Need-sub-start
 sub-start c = let at = c .before .before .before .before .before in
-    omega (arith, c .four-bytes2 .ensures, is-right _ _ (sym (at .before .is-wrong .ensures) ∙ at .if2 .left) .within)
+    omega (arith, c .four-bytes2 .ensures, is-right _ _ (sym (at .before .is-wrong .ensures) ∙ at .if2 .left) .in-front)
 
 returns-3 : tie.Need-returns-3
 unfolding malformed jobOf

@@ -6,7 +6,7 @@ use Rattle.job.proofs.loader.Job.driven.Tie as tie
 
 returns : tie.Need-returns
 unfolding drivenOf
-returns c = simp (c .before .enum-told .given .1) (c .ended .ensures)
+returns c = simp (c .before .enum-told .given .1) (c .operation-ended .ensures)
 
 returns-2 : tie.Need-returns-2
 unfolding drivenOf
