@@ -18,7 +18,9 @@ returns-3 : tie.Need-returns-3
 unfolding turnedOf
 returns-3 c =
     let b = c .before .before .before in
-    simp (c .turn-numbers .ensures, c .before .turn .ensures .0, c .before .turn .ensures .1, b .loading-of .ensures, le-ltb _ _ (b .before .before .before .if1 .left), le-ltb _ _ (b .before .if2 .left)) (refl, refl)
+    let t = c .before .turn in
+    let far = le-ltb _ _ (b .before .before .before .if1 .left) in
+    simp (c .turn-numbers .ensures, t .ensures .0, t .ensures .1, b .loading-of .ensures, far, le-ltb _ _ (b .before .if2 .left)) (refl, refl)
 
 pub turned-spec : {M : Type 1} → statement M
 turned-spec =
