@@ -6,4 +6,5 @@ pub mod Marked
 pub mod Socket
 pub mod Unique
 pub mod Refused
+pub mod States
 pub mod Answers

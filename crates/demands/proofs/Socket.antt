@@ -2,7 +2,7 @@
 use Prim.Native.Nat.{ℕ}
 use mathlib.Core.Path.{_≡_, refl, sym, ap, _∙_}
 use mathlib.Core.Bool.{Bool, true, false}
-use mathlib.Core.List.{List}
+use mathlib.Core.List.{List, []}
 use borrow.Author.Tests.{ne-eqb, eqb-true}
 use lib.Dec.{eqb, ltb}
 use lib.ListN.{length}
@@ -10,8 +10,6 @@ use Rattle.parts.proofs.Every.{split}
 use Rattle.parts.specs.Pick.{_when_, _else_}
 use Rattle.chip.specs.Device.{freshDevice}
 use Rattle.chip.specs.Cycle.{Chip, chip}
-use Rattle.parts.specs.Pick.{_when_, _else_}
-use Rattle.chip.specs.Device.{freshDevice}
 use Rattle.job.specs.declared.loading.Progress.the-variants.{Waiting}
 use Rattle.job.specs.declared.loading.Loading.{Loading}
 use Rattle.job.specs.declared.loading.Begun.{Begun}
@@ -39,6 +37,21 @@ use Rattle.demands.proofs.Controller.{turnAsked, turn-left, station-tur
 keeps : (image : List ℕ) (k : Controller image) (g : Loading) (seen : List ℕ) (read : ℕ) → turns image k g seen read ≡ loadTurnOf g image seen read
 keeps image k g seen read =
     turn-left (k .calls g seen read) ∙ ap turnAsked (k .given g seen read)
+
+-- the calls whose every result is the definition's
+by-definition : (image : List ℕ) → Controller image
+by-definition image =
+    record {
+      calls = λ g seen read. let t = loadTurnOf g image seen read in
+          record {
+            lifetimes = ([], ([], tt));
+            given = (g, (record { ptr = (0, 0); name = 0; now = image }, (record { ptr = (0, 0); name = 0; now = seen }, (read, tt))));
+            back = t .turn;
+            ends = (g, (record { ptr = (0, 0); name = 0; now = image }, (record { ptr = (0, 0); name = 0; now = t .seen }, (read, tt))));
+            promise = (refl, refl);
+          };
+      given = λ g seen read. refl;
+    }
 
 -- what a begin hands back
 abbrev beginning : ToBegin → Begun
@@ -113,6 +126,7 @@ socket =
       begin-given = λ c z. c .promise ∙ begin-taken (toBegin c) z;
       out-of-range = λ c e. let g = toTurn c in turn-left c ∙ out-of (g .loading) (g .image) (g .seen) (g .read) e;
       turn-refuses = turn-refusing;
+      some-controller = by-definition;
       sends-first = λ c accepted k cells whole seen long read n. let g = toBegin c in
           let T = turns (g .image) k in
           rw (c .promise) (

@@ -7,5 +7,6 @@ pub mod Demand3
 pub mod Marked
 pub mod Beside
 pub mod Refused
+pub mod States
 pub mod Socket
 pub mod Unique

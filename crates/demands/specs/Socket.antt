@@ -58,6 +58,8 @@ pub record Socket : Type 0 where
   -- readings as they came.
   pub turn-refuses : (c : TurnCall) → let g = toTurn c in isEnding (c .back .answer) ≡ false
       → turnLeft c ≡ loadTurned (g .seen) (loadTurn (c .back .answer) (g .loading) SendsNothing)
+  -- There is such a controller for every image.
+  pub some-controller : (image : List ℕ) → Controller image
   -- A begun job, driven against the model from a fresh device and the part's number of cells (`loadTalk`), whatever was kept
   -- before: after n cycles it has sent the first n of the job's one list, and left the cells as the second call of n does;
   pub sends-first : (c : BeginCall) → let g = toBegin c in refusedBegin g ≡ 0
