@@ -18,7 +18,7 @@ returns-2 c = simp (c .before .before .before .if1 .left, eq-eqb _ _ (c .before 
 
 returns-3 : tie.Need-returns-3
 unfolding ignored
-returns-3 c = simp (c .before .before .before .if1 .left, ne-eqb _ _ (c .before .if2 .left)) (cc (c .holds .ensures, c .before .before .protected-range .ensures))
+returns-3 c = simp (c .before .before .before .if1 .left, ne-eqb _ _ (c .before .if2 .left)) (rw (c .before .before .protected-range .ensures) at (c .holds .ensures))
 
 pub is-ignored-spec : {M : Type 1} → statement M
 is-ignored-spec =

@@ -7,11 +7,11 @@ use Rattle.commands.proofs.effect.effect_of.Tie as tie
 
 returns : tie.Need-returns
 unfolding effectOf
-returns c = simp (c .before .before .match .keys1) (cc (c .on .ensures, c .before .at-u1 .ensures))
+returns c = simp (c .before .before .match .keys1) (rw (c .before .at-u1 .ensures) at (c .on .ensures))
 
 returns-2 : tie.Need-returns-2
 unfolding effectOf
-returns-2 c = simp (c .before .before .match .keys2) (cc (c .on2 .ensures, c .before .at-u2 .ensures))
+returns-2 c = simp (c .before .before .match .keys2) (rw (c .before .at-u2 .ensures) at (c .on2 .ensures))
 
 returns-3 : tie.Need-returns-3
 unfolding effectOf
@@ -23,11 +23,11 @@ returns-4 c = simp (c .match .keys4)
 
 returns-5 : tie.Need-returns-5
 unfolding effectOf
-returns-5 c = simp (c .before .before .match .keys5) (cc (c .on3 .ensures, c .before .at-u12 .ensures))
+returns-5 c = simp (c .before .before .match .keys5) (rw (c .before .at-u12 .ensures) at (c .on3 .ensures))
 
 returns-6 : tie.Need-returns-6
 unfolding effectOf
-returns-6 c = simp (c .before .before .match .keys6) (cc (c .on4 .ensures, c .before .at-u22 .ensures))
+returns-6 c = simp (c .before .before .match .keys6) (rw (c .before .at-u22 .ensures) at (c .on4 .ensures))
 
 returns-7 : tie.Need-returns-7
 unfolding effectOf

@@ -4,7 +4,7 @@ use Rattle.chip.proofs.device.Core.at_rest.Statement.{statement}
 use Rattle.chip.proofs.device.Core.at_rest.Tie as tie
 
 returns : tie.Need-returns
-returns c = cc (c .with-running .ensures, c .before .no-operation .ensures)
+returns c = rw (c .before .no-operation .ensures) at (c .with-running .ensures)
 
 pub at-rest-spec : {M : Type 1} → statement M
 at-rest-spec = tie.close (tie.spec (λ c κs. search needs) (λ c κs. search needs) returns)

@@ -14,7 +14,7 @@ returns-2 c = simp (c .before .enum-told2 .given .1) (c .block-of .ensures)
 
 returns-3 : tie.Need-returns-3
 unfolding protectedOf
-returns-3 c = simp (c .before .before .enum-told3 .given .1) (cc (c .block-of2 .ensures, c .before .last .ensures))
+returns-3 c = simp (c .before .before .enum-told3 .given .1) (rw (c .before .last .ensures) at (c .block-of2 .ensures))
 
 pub protected-range-spec : {M : Type 1} → statement M
 protected-range-spec =

@@ -6,7 +6,7 @@ use Rattle.parts.proofs.table.Row.sector_of.Tie as tie
 
 returns : tie.Need-returns
 unfolding sectorOf
-returns c = cc (c .range .ensures, c .before .sector-size .ensures)
+returns c = rw (c .before .sector-size .ensures) at (c .range .ensures)
 
 pub sector-of-spec : {M : Type 1} → statement M
 sector-of-spec = tie.close (tie.spec (λ c κs. search needs) (λ c κs. search needs) returns)
