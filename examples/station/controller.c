@@ -1,6 +1,6 @@
 /* A controller in C: one program, one erase and one whole job over a bus that is three functions: read, write and wait. Which cycle
    comes next, and when an operation is over, the proved library says; nothing here knows a rule of the chip. The buses are the proved
-   model and a dead socket, where nothing answers. */
+   model, a dead socket, where nothing answers, and a chip that dies in the middle of a job. */
 #include <inttypes.h>
 #include <stdio.h>
 
@@ -130,14 +130,55 @@ static void dead_wait(void *socket, uint32_t micros)
     (void)micros;
 }
 
+/* A chip that dies after so many cycles: the model until then, and a dead socket from then on. */
+struct dying {
+    struct bus alive;
+    struct bus dead;
+    uint64_t cycles;
+};
+
+/* What the next cycle meets. */
+static const struct bus *dying_bus(struct dying *dying)
+{
+    if (dying->cycles == 0)
+        return &dying->dead;
+    dying->cycles--;
+    return &dying->alive;
+}
+
+static uint16_t dying_read(void *socket, uint32_t address)
+{
+    const struct bus *bus = dying_bus((struct dying *)socket);
+    return bus->read(bus->socket, address);
+}
+
+static void dying_write(void *socket, uint32_t address, uint16_t data)
+{
+    const struct bus *bus = dying_bus((struct dying *)socket);
+    bus->write(bus->socket, address, data);
+}
+
+static void dying_wait(void *socket, uint32_t micros)
+{
+    const struct bus *bus = &((struct dying *)socket)->alive;
+    bus->wait(bus->socket, micros);
+}
+
 static void print_outcome(const struct bus *bus, const char *what, struct outcome outcome)
 {
     printf("%s: %s: answer %" PRIu32 ", %" PRIu64 " cycles, %" PRIu64 " us\n", bus->name, what, outcome.answer, outcome.cycles,
            outcome.micros);
 }
 
-/* The values of the jobs below. */
+/* The values of the jobs below, blank but for one. */
 #define VALUES 2048
+
+static void make_image(uint16_t *image, uint16_t fifth)
+{
+    for (size_t i = 0; i < VALUES; i++)
+        image[i] = 0xffff;
+    image[5] = fifth;
+}
 
 /* What the controller does on any bus. */
 static void work(const struct bus *bus)
@@ -149,13 +190,27 @@ static void work(const struct bus *bus)
     print_outcome(bus, "erase the sector at 5", perform(bus, part, STATION_SECTOR_ERASE, 5, 0, p));
     print_outcome(bus, "program 1235H at 5", perform(bus, part, STATION_PROGRAM, 5, 0x1235, p));
     print_outcome(bus, "program past the cells", perform(bus, part, STATION_PROGRAM, 8192, 0, p));
-    for (size_t i = 0; i < VALUES; i++)
-        image[i] = 0xffff;
-    image[5] = 0x1234;
+    make_image(image, 0x1234);
     print_outcome(bus, "a job with 1234H at 5", load(bus, part, 0, image, VALUES, 1, p));
-    image[5] = 0x1235;
+    make_image(image, 0x1235);
     print_outcome(bus, "a job with 1235H at 5", load(bus, part, 0, image, VALUES, 1, p));
     print_outcome(bus, "a job of 2,047 values", load(bus, part, 0, image, VALUES - 1, 1, p));
+}
+
+/* A job on a chip that holds 1235H at 5, and dies after so many cycles: in the erase, and in the program after it. */
+static void work_on_dying(struct bus alive, struct bus dead)
+{
+    const uint64_t lives[] = {3000, 3857};
+    struct model *model = (struct model *)alive.socket;
+    uint16_t image[VALUES];
+    make_image(image, 0x1236);
+    for (size_t i = 0; i < sizeof lives / sizeof lives[0]; i++) {
+        struct dying dying = {alive, dead, lives[i]};
+        const struct bus bus = {"dying chip", &dying, dying_read, dying_write, dying_wait};
+        make_image(model->cells, 0x1235);
+        model->device = station_fresh();
+        print_outcome(&bus, "a job with 1236H at 5", load(&bus, model->part, 0, image, VALUES, 1, 10));
+    }
 }
 
 int main(void)
@@ -170,5 +225,6 @@ int main(void)
     for (size_t i = 0; i < sizeof buses / sizeof buses[0]; i++)
         work(&buses[i]);
     printf("cell 5 of the model: %04XH\n", (unsigned)cells[5]);
+    work_on_dying(buses[0], buses[1]);
     return 0;
 }
