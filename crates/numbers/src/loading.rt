@@ -1,8 +1,7 @@
 // The loader for a real socket as plain numbers: its job, its begin and its turn. Any numbers may be given.
-use crate::cycle::bit_number;
 use crate::machine::CycleNumbers;
 use crate::machine::DriverNumbers;
-use crate::machine::ENDED_DIFFERENT;
+use crate::machine::ENDED_DIFFERS;
 use crate::machine::driver_numbers;
 use crate::machine::driver_of;
 use crate::machine::no_cycle;
@@ -20,6 +19,7 @@ use parts::names::BAD_STATE;
 use parts::names::DIFFERS;
 use parts::names::GAVE_UP;
 ghost use mathlib.Core.Path.{_≡_};
+ghost use Rattle.bus.specs.Cycle.{bitNumber};
 ghost use Rattle.numbers.specs.Machine.{sentNumbers};
 ghost use Rattle.numbers.specs.Loading.{beginNumbers, loadingAt, loadingNumbers, loadingOf, noDriverNumbers, noTurn, progressAt, progressNumbers, sendingLevel, sendingNumbers, stageAt, stageNumbers, taskAt, taskNumber, toldTurn, turnNumbers, turnedOf};
 
@@ -30,11 +30,11 @@ const SCANNING: u32 = 1;
 
 const LOOKING: u32 = 2;
 
-const DRIVING_AN_ERASE: u32 = 3;
+const ERASING: u32 = 3;
 
-const DRIVING_A_FILL: u32 = 4;
+const FILLING: u32 = 4;
 
-const DRIVING_A_BURN: u32 = 5;
+const BURNING: u32 = 5;
 
 const OVER: u32 = 6;
 
@@ -74,9 +74,9 @@ fn task_number(task: Task) -> u32
     ensures { λ r. ⌜ r ≡ taskNumber task ⌝ }
 {
     match task {
-        Task::Erasing => DRIVING_AN_ERASE,
-        Task::Filling => DRIVING_A_FILL,
-        Task::Burning => DRIVING_A_BURN,
+        Task::Erasing => ERASING,
+        Task::Filling => FILLING,
+        Task::Burning => BURNING,
     }
 }
 
@@ -84,10 +84,10 @@ fn task_number(task: Task) -> u32
 fn task_at(n: u32) -> Task
     ensures { λ r. ⌜ r ≡ taskAt n ⌝ }
 {
-    if n == DRIVING_AN_ERASE {
+    if n == ERASING {
         return Task::Erasing;
     }
-    if n == DRIVING_A_FILL {
+    if n == FILLING {
         return Task::Filling;
     }
     Task::Burning
@@ -108,6 +108,16 @@ fn no_driver_numbers() -> DriverNumbers
     }
 }
 
+// The number of a level.
+fn level_number(high: bool) -> u32
+    ensures { λ r. ⌜ r ≡ bitNumber high ⌝ }
+{
+    if high {
+        return 1;
+    }
+    0
+}
+
 // The numbers of a job that is as far as this.
 fn loading_at(
     g: Loading,
@@ -123,7 +133,7 @@ fn loading_at(
         part: g.part,
         first: g.first,
         count: g.count,
-        wp: bit_number(g.wp),
+        wp: level_number(g.wp),
         p: g.p,
         progress,
         base,
@@ -245,7 +255,7 @@ fn sending_level(next: Sending) -> u32
 {
     match next {
         Sending::SendsNothing => 0,
-        Sending::Sends(_, cycle) => bit_number(cycle.wp),
+        Sending::Sends(_, cycle) => level_number(cycle.wp),
     }
 }
 
@@ -305,7 +315,7 @@ pub fn turned(
     if OVER < loading.progress {
         return no_turn(BAD_STATE, loading);
     }
-    if ENDED_DIFFERENT < d.phase {
+    if ENDED_DIFFERS < d.phase {
         return no_turn(BAD_STATE, loading);
     }
     let g = loading_of(loading);

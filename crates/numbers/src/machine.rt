@@ -19,11 +19,11 @@ const POLLING: u32 = 1;
 
 const CONFIRMING: u32 = 2;
 
-const DONE: u32 = 3;
+const ENDED_DONE: u32 = 3;
 
-const ENDED_GIVEN_UP: u32 = 4;
+const ENDED_GAVE_UP: u32 = 4;
 
-pub(crate) const ENDED_DIFFERENT: u32 = 5;
+pub(crate) const ENDED_DIFFERS: u32 = 5;
 
 // A driver as numbers.
 #[repr(C)]
@@ -70,9 +70,9 @@ fn phase_number(phase: Phase) -> u32
         Phase::Writing => WRITING,
         Phase::Polling => POLLING,
         Phase::Confirming => CONFIRMING,
-        Phase::Done => DONE,
-        Phase::GaveUp => ENDED_GIVEN_UP,
-        Phase::Differs => ENDED_DIFFERENT,
+        Phase::Done => ENDED_DONE,
+        Phase::GaveUp => ENDED_GAVE_UP,
+        Phase::Differs => ENDED_DIFFERS,
     }
 }
 
@@ -89,10 +89,10 @@ fn phase_at(n: u32) -> Phase
     if n == CONFIRMING {
         return Phase::Confirming;
     }
-    if n == DONE {
+    if n == ENDED_DONE {
         return Phase::Done;
     }
-    if n == ENDED_GIVEN_UP {
+    if n == ENDED_GAVE_UP {
         return Phase::GaveUp;
     }
     Phase::Differs
@@ -202,7 +202,7 @@ fn step_numbers(t: Step) -> StepNumbers
 pub fn stepped(state: DriverNumbers, read: u16) -> StepNumbers
     ensures { λ r. ⌜ r ≡ steppedOf state read ⌝ }
 {
-    if ENDED_DIFFERENT < state.phase {
+    if ENDED_DIFFERS < state.phase {
         return StepNumbers {
             answer: BAD_STATE,
             driver: state,
