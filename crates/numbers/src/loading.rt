@@ -2,11 +2,10 @@
 use crate::machine::CycleNumbers;
 use crate::machine::DriverNumbers;
 use crate::machine::ENDED_DIFFERS;
+use crate::machine::NOTHING_TO_SEND;
 use crate::machine::driver_numbers;
 use crate::machine::driver_of;
-use crate::machine::no_cycle;
 use crate::machine::sent_numbers;
-use chip::Cycle;
 use job::Begun;
 use job::LoadTurn;
 use job::Loader;
@@ -20,8 +19,7 @@ use parts::names::DIFFERS;
 use parts::names::GAVE_UP;
 ghost use mathlib.Core.Path.{_≡_};
 ghost use Rattle.bus.specs.Cycle.{bitNumber};
-ghost use Rattle.numbers.specs.Machine.{sentNumbers};
-ghost use Rattle.numbers.specs.Loading.{beginNumbers, loadingAt, loadingNumbers, loadingOf, noDriverNumbers, noTurn, progressAt, progressNumbers, sendingLevel, sendingNumbers, stageAt, stageNumbers, taskAt, taskNumber, toldTurn, turnNumbers, turnedOf};
+ghost use Rattle.numbers.specs.Loading.{beginNumbers, loadingAt, loadingNumbers, loadingOf, noDriverNumbers, noTurn, progressAt, sendingLevel, sendingNumbers, stageAt, stageNumbers, taskAt, taskNumber, toldTurn, turnNumbers, turnedOf};
 
 // ---- how far a job is
 const WAITING: u32 = 0;
@@ -154,14 +152,6 @@ fn stage_numbers(g: Loading, stage: Stage, base: u32, at: u32) -> LoadingNumbers
     }
 }
 
-// The numbers of a job within a sector.
-fn within_numbers(g: Loading, loader: Loader) -> LoadingNumbers
-    ensures { λ r. ⌜ r ≡ progressNumbers g (Progress.Within loader) ⌝ }
-{
-    let stage = loader.stage;
-    stage_numbers(g, stage, loader.base, loader.at)
-}
-
 // The numbers of a job under way.
 fn loading_numbers(g: Loading) -> LoadingNumbers
     ensures { λ r. ⌜ r ≡ loadingNumbers g ⌝ }
@@ -169,7 +159,10 @@ fn loading_numbers(g: Loading) -> LoadingNumbers
     let progress = g.progress;
     match progress {
         Progress::Waiting => loading_at(g, WAITING, 0, 0, no_driver_numbers(), 0),
-        Progress::Within(loader) => within_numbers(g, loader),
+        Progress::Within(loader) => {
+            let stage = loader.stage;
+            stage_numbers(g, stage, loader.base, loader.at)
+        }
         Progress::Over(n) => loading_at(g, OVER, 0, 0, no_driver_numbers(), n),
     }
 }
@@ -231,21 +224,16 @@ pub fn begin_numbers(b: Begun) -> BeginNumbers
     }
 }
 
-// The numbers of a cycle that a turn names.
-fn cycle_numbers(cycle: Cycle) -> CycleNumbers
-    ensures { λ r. ⌜ r ≡ sentNumbers (cycle .elapsed) (cycle .action) ⌝ }
-{
-    let action = cycle.action;
-    sent_numbers(cycle.elapsed, action)
-}
-
 // The numbers of what a turn names.
 fn sending_numbers(next: Sending) -> CycleNumbers
     ensures { λ r. ⌜ r ≡ sendingNumbers next ⌝ }
 {
     match next {
-        Sending::SendsNothing => no_cycle(),
-        Sending::Sends(_, cycle) => cycle_numbers(cycle),
+        Sending::SendsNothing => NOTHING_TO_SEND,
+        Sending::Sends(_, cycle) => {
+            let action = cycle.action;
+            sent_numbers(cycle.elapsed, action)
+        }
     }
 }
 
@@ -280,7 +268,7 @@ fn no_turn(answer: u32, given: LoadingNumbers) -> TurnNumbers
     TurnNumbers {
         answer,
         loading: given,
-        cycle: no_cycle(),
+        cycle: NOTHING_TO_SEND,
         wp: 0,
     }
 }
