@@ -96,7 +96,7 @@ abbrev pub nextNumbers : Next → CycleNumbers
 nextNumbers Nothing = noCycle
 nextNumbers (Send e a) = sentNumbers e a
 
--- the cycle of some numbers: any other kind is a write
+-- the cycle of some numbers: any kind but none and a read is a write
 unfoldable pub nextOf : CycleNumbers → Next
 nextOf n =
     Nothing when eqb (n .kind) NO-CYCLE
