@@ -7,6 +7,8 @@ use lib.Dec.{ltb}
 use Rattle.chip.specs.Device.{freshDevice}
 use Rattle.chip.specs.Cycle.{Outcome, cycleOf}
 use Rattle.driver.specs.Machine.{startOf, stepOf}
+use Rattle.bus.specs.Cycle.{deviceOf, cycledNumbers}
+use Rattle.bus.proofs.Back.{device-back}
 use Rattle.job.specs.declared.loading.Begun.{Begun}
 use Rattle.job.specs.declared.loading.LoadTurn.{LoadTurn}
 use Rattle.job.specs.Loading.{beginLoad, LoadTurned, loadTurned, loadTurnOf}
@@ -14,9 +16,8 @@ use Rattle.job.specs.Bill.{Loaded, Reported, loadOf, reportOf}
 use Rattle.jobfile.specs.JobFile.{jobOf, valuesOf}
 use Rattle.billing.specs.File.{billOfFile}
 use Rattle.numbers.specs.Machine.{startNumbers, stepNumbers, steppedOf}
-use Rattle.numbers.specs.Cycle.{deviceOf, cycledNumbers}
 use Rattle.numbers.specs.Loading.{beginNumbers, turnedNumbers, turnedOf}
-use Rattle.numbers.proofs.Back.{driver-back, loading-back, device-back}
+use Rattle.numbers.proofs.Back.{driver-back, loading-back}
 use Rattle.demands.specs.Calls.{BusCall, OnBus, onBus, busLeft, ToStart, ToStep, LoadCall, LoadFirstCall, ToLoad, toLoad, ToLoadFirst, toLoadFirst, loadLeft, loadFirstLeft, ToRead, ToReadImage}
 use Rattle.demands.specs.Controller.{StationBusCall, byRead, byWrite, byIdle, byCut, onStation, stationLeft, meant, Controller}
 use Rattle.demands.specs.Calls.{ToBegin, TurnCall, ToTurn, toTurn, turnLeft}

@@ -30,6 +30,8 @@ use Rattle.driver.specs.Writes.{noWrite, commandWrites, kth, kthRefusal, kthWri
 use Rattle.driver.specs.Machine.{valueWanted, noDriver, startOf, startWriting, mostPolls, inRange, step, ended, writingOf, polls, matches, pollingOf, confirmingOf, phaseOf, stepOf}
 use Rattle.driver.proofs.Begins.{start-range}
 use Rattle.driver.proofs.Theorems.{refused-steps}
+use Rattle.bus.specs.Cycle.{deviceOf, noState, Cycled, cycledNumbers}
+use Rattle.bus.proofs.Back.{bad-mode, bad-toggle, no-device, refused-numbers, taken-numbers}
 use Rattle.job.specs.declared.bill.Bill.{Bill}
 use Rattle.job.specs.Bill.{Loaded, Reported, refusedBill, loadOf, reportOf}
 use Rattle.jobfile.specs.declared.trailer.JobFile.{JobFile}
@@ -39,8 +41,7 @@ use Rattle.demands.specs.Calls.{onBus, refusedCycle, StepCall, toStep, S
 use Rattle.numbers.specs.declared.machine.DriverNumbers.{DriverNumbers}
 use Rattle.numbers.specs.declared.machine.StartNumbers.{StartNumbers}
 use Rattle.numbers.specs.Machine.{phaseAt, driverNumbers, driverOf, startNumbers, steppedOf}
-use Rattle.numbers.specs.Cycle.{deviceOf, noState, Cycled, cycledNumbers}
-use Rattle.numbers.proofs.Back.{no-phase, out-of-range, bad-mode, bad-toggle, no-device, refused-numbers, taken-numbers}
+use Rattle.numbers.proofs.Back.{no-phase, out-of-range}
 use Rattle.demands.specs.Calls.{rowAsked, figureAsked, toRead, ToRead, toBill, jobAsked, refusedFile}
 use Rattle.demands.specs.Controller.{StationStepCall, numbersToStep, OnStation, onStation, meant, noDevice, stationToLoad, stationToLoadFirst, stationToRead, stationToBill}
 use Rattle.demands.proofs.Controller.{cycleAsked, station-left}

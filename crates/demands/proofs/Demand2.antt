@@ -34,15 +34,16 @@ use Rattle.driver.specs.Machine.{addressOf, confirmAfter, bitSeven, bitWanted, 
 use Rattle.driver.specs.Talk.{Stepping, AsSaid, writeCycles, shownAfter, Told, talk, heard}
 use Rattle.driver.proofs.Asked.{asking, begun}
 use Rattle.driver.proofs.Theorems as Theorems
+use Rattle.bus.specs.Cycle.{high, deviceNumbers}
+use Rattle.bus.proofs.Back.{taken-numbers}
 use Rattle.demands.specs.Calls.{onBus, refusedCycle, toWrite, StepCall, ToStep, toStep, AsPromised, ToStart, toStart, refusedStart}
 use Rattle.demands.specs.Demand2.{IdleUnprotected, StartedDriver, startAsked, operationAsked, polls, cyclesAtMost, ChipFor, firstNamed, talked, noRead, Demand2}
 use Rattle.numbers.specs.declared.machine.DriverNumbers.{DriverNumbers}
 use Rattle.numbers.specs.declared.machine.StartNumbers.{StartNumbers}
 use Rattle.numbers.specs.declared.machine.StepNumbers.{StepNumbers}
 use Rattle.numbers.specs.Machine.{driverNumbers, driverOf, stepNumbers, steppedOf}
-use Rattle.numbers.specs.Cycle.{high, deviceNumbers}
 use Rattle.numbers.specs.Loop.{Looped, toldNumbers, loop, heardNumbers, loopHearing}
-use Rattle.numbers.proofs.Back.{driver-back, step-of-driver, next-back, taken-numbers}
+use Rattle.numbers.proofs.Back.{driver-back, step-of-driver, next-back}
 use Rattle.numbers.proofs.Loop.{loop-is-talk, hearing-is-heard}
 use Rattle.demands.specs.Controller.{StationStartCall, onStation}
 use Rattle.demands.proofs.Controller.{station-left}

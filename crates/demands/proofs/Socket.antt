@@ -10,6 +10,7 @@ use Rattle.parts.proofs.Every.{split}
 use Rattle.parts.specs.Pick.{_when_, _else_}
 use Rattle.chip.specs.Device.{freshDevice}
 use Rattle.chip.specs.Cycle.{Chip, chip}
+use Rattle.bus.specs.Cycle.{deviceNumbers}
 use Rattle.job.specs.declared.loading.Progress.the-variants.{Waiting}
 use Rattle.job.specs.declared.loading.Loading.{Loading}
 use Rattle.job.specs.declared.loading.Begun.{Begun}
@@ -23,7 +24,6 @@ use Rattle.job.proofs.AsItCame.{none-begun, as-it-came}
 use Rattle.job.proofs.OnBus.{sends-first, leaves-played, loads-list, ends-whatever}
 use Rattle.numbers.specs.declared.loading.LoadingNumbers.{LoadingNumbers}
 use Rattle.numbers.specs.declared.loading.BeginNumbers.{BeginNumbers}
-use Rattle.numbers.specs.Cycle.{deviceNumbers}
 use Rattle.numbers.specs.Loading.{loadingNumbers, loadingOf, beginNumbers, toldTurned, turnNumbers, TurnedNumbers, noStateTurned, turnedNumbers, turnedOf}
 use Rattle.numbers.specs.JobLoop.{turnsWith, jobLoop, jobHearing}
 use Rattle.numbers.proofs.Back.{loading-back, turn-of-loading, refused-turn}

@@ -16,7 +16,7 @@ use Rattle.job.specs.Refusal.{fitAll, meets, protectionRefusal, sectorsRefusal,
 use Rattle.job.specs.Loader.{nextSector, lookOf, beginOf, burnOf, drivenOf, scannedOf, inJob, turnOf}
 use Rattle.job.specs.Loading.{beginLoad, isEnding, sameAsked, loaderInRange, loadingInRange, stopsWith, loadTurnOf}
 use Rattle.numbers.specs.Machine.{phaseAt, steppedOf}
-use Rattle.numbers.specs.Cycle.{deviceOf, replyNumbers}
+use Rattle.bus.specs.Cycle.{deviceOf, replyNumbers}
 use Rattle.numbers.specs.Loading.{taskAt, stageAt, progressAt, turnNumbers, turnedOf}
 use Rattle.demands.specs.States.{givesSo, steps, cycles, begins, waitingTurns, readingTurns, drivingTurns, wideTurn}
 

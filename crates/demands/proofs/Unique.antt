@@ -4,6 +4,7 @@ use Rattle.table.proofs.Determined as table
 use Rattle.commands.proofs.Determined as commands
 use Rattle.chip.proofs.Determined as chip
 use Rattle.driver.proofs.Determined as driver
+use Rattle.bus.proofs.Determined as bus
 use Rattle.job.proofs.Determined as job
 use Rattle.numbers.proofs.Determined as numbers
 use Rattle.jobfile.proofs.Determined as jobfile
@@ -43,8 +44,8 @@ unique =
       turn = job.turn-unique;
       start-numbers = numbers.start-numbers-unique;
       stepped = numbers.stepped-unique;
-      device-numbers = numbers.device-numbers-unique;
-      cycled = numbers.cycled-unique;
+      device-numbers = bus.device-numbers-unique;
+      cycled = bus.cycled-unique;
       begin-numbers = numbers.begin-numbers-unique;
       turned = numbers.turned-unique;
       read-job = jobfile.read-job-unique;

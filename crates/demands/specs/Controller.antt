@@ -14,15 +14,15 @@ use Rattle.chip.specs.Device.{freshDevice}
 use Rattle.chip.specs.Cycle.{cycle}
 use Rattle.driver.specs.declared.machine.Driver.{Driver}
 use Rattle.driver.specs.Machine.{inRange}
+use Rattle.bus.specs.declared.cycle.DeviceNumbers.{DeviceNumbers}
+use Rattle.bus.specs.Cycle.{high, deviceNumbers, deviceOf, Cycled, cycledNumbers}
 use Rattle.job.specs.declared.loading.Loading.{Loading}
 use Rattle.job.specs.Bill.{Loaded, Reported}
 use Rattle.job.specs.Loading.{loadingInRange}
 use Rattle.numbers.specs.declared.machine.DriverNumbers.{DriverNumbers}
-use Rattle.numbers.specs.declared.cycle.DeviceNumbers.{DeviceNumbers}
 use Rattle.numbers.specs.declared.loading.LoadingNumbers.{LoadingNumbers}
 use Rattle.numbers.specs.Loading.{loadingNumbers, loadingOf, beginNumbers, TurnedNumbers, turnedNumbers}
 use Rattle.numbers.specs.Machine.{driverNumbers, driverOf, startNumbers, stepNumbers}
-use Rattle.numbers.specs.Cycle.{high, deviceNumbers, deviceOf, Cycled, cycledNumbers}
 use Rattle.station.proofs.station_start.Kinds as start-kinds
 use Rattle.station.proofs.station_start.Reads as start-reads
 use Rattle.station.proofs.station_step.Kinds as step-kinds

@@ -23,6 +23,7 @@ use Rattle.driver.specs.declared.writes.Writes.{Writes}
 use Rattle.driver.specs.declared.writes.Kth.{Kth}
 use Rattle.driver.specs.Writes.{noWrite, writes, kth}
 use Rattle.driver.specs.Machine.{noDriver, inRange, step}
+use Rattle.bus.specs.Cycle.{Cycled}
 use Rattle.job.specs.declared.bill.Bill.{Bill}
 use Rattle.job.specs.Bill.{Loaded, Reported, refusedBill, refusedReport}
 use Rattle.jobfile.specs.declared.trailer.JobFile.{JobFile}
@@ -31,7 +32,6 @@ use Rattle.numbers.specs.declared.machine.DriverNumbers.{DriverNumbers}
 use Rattle.numbers.specs.declared.machine.StartNumbers.{StartNumbers}
 use Rattle.numbers.specs.declared.machine.StepNumbers.{StepNumbers}
 use Rattle.numbers.specs.Machine.{driverNumbers, noDriverState}
-use Rattle.numbers.specs.Cycle.{Cycled}
 use Rattle.demands.specs.Calls.{BusCall, onBus, busLeft, refusedCycle, StartCall, StartWritingCall, toStart, refusedStart, StepCall, toStep, WritesCall, toWrite, refusedWrites, KthCall, StationAddressCall, StationDataCall, StationWriteCall, kthAsked, refusedKth, LoadCall, LoadFirstCall, toLoad, toLoadFirst, loadLeft, loadFirstLeft, refusedJob, RowCall, rowAsked, FigureCall, StationFigureCall, StationFigureAnswerCall, figureAsked, refusedFigure, FileCall, toRead, BillFileCall, toBill, refusedFile}
 use Rattle.demands.specs.Controller.{StationStartCall, StationStepCall, numbersToStep, numbersInRange, StationBusCall, onStation, stationLeft, meant, noDevice}
 use Rattle.demands.specs.Controller.{StationLoadCall, StationLoadFirstCall, stationToLoad, stationToLoadFirst, stationLoadLeft, stationLoadFirstLeft}

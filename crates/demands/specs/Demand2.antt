@@ -26,9 +26,9 @@ use Rattle.driver.specs.Writes.{writeCount}
 use Rattle.driver.specs.Machine.{valueWanted, begun, moved, ended, stepOf}
 use Rattle.driver.specs.Talk.{Stepping, writeCycles, operationCycles, operationOf, completed, shownAfter, Told, told, talk, heard}
 use Rattle.driver.specs.Endings.{MustRaise, MustRaiseSeven, Ended, Meaning}
+use Rattle.bus.specs.Cycle.{high, deviceNumbers}
 use Rattle.demands.specs.Calls.{BusCall, onBus, busLeft, refusedCycle, WritesCall, toWrite, refusedWrites, StartCall, ToStart, toStart, refusedStart, StepCall, toStep, AsPromised}
 use Rattle.numbers.specs.Machine.{driverOf, steppedOf}
-use Rattle.numbers.specs.Cycle.{high, deviceNumbers}
 use Rattle.numbers.specs.Loop.{toldNumbers, loop, heardNumbers, loopHearing}
 use Rattle.demands.specs.Controller.{StationBusCall, onStation, stationLeft, meant, StationStartCall}
 

@@ -11,6 +11,7 @@ use Rattle.parts.specs.Names.{BAD-STATE}
 use Rattle.parts.specs.Table.{rowOf}
 use Rattle.chip.specs.Device.{freshDevice}
 use Rattle.chip.specs.Cycle.{chip}
+use Rattle.bus.specs.Cycle.{deviceNumbers}
 use Rattle.job.specs.declared.loader.Job.{Job}
 use Rattle.job.specs.declared.loading.Progress.the-variants.{Waiting}
 use Rattle.job.specs.declared.loading.Loading.{Loading}
@@ -22,7 +23,6 @@ use Rattle.job.specs.Loading.{loading, isEnding, loadingInRange, loadTurn, Load
 use Rattle.job.specs.Socket.{loadTalk, loadHeard, cyclesMost, HasLoaded, HasEnded}
 use Rattle.demands.specs.Calls.{BeginCall, ToBegin, toBegin, refusedBegin, zeroLoading, TurnCall, toTurn, turnLeft}
 use Rattle.numbers.specs.declared.loading.BeginNumbers.{BeginNumbers}
-use Rattle.numbers.specs.Cycle.{deviceNumbers}
 use Rattle.numbers.specs.Loading.{loadingNumbers, loadingOf, noTurn, noStateTurned, turnedOf}
 use Rattle.numbers.specs.JobLoop.{turnsWith, jobToldNumbers, jobLoop, jobHeardNumbers, jobHearing}
 use Rattle.demands.specs.Controller.{StationBeginCall, stationToBegin, StationTurnCall, numbersToTurn, loadingNumbersInRange, stationTurnLeft}

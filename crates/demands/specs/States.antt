@@ -9,10 +9,10 @@ use Rattle.chip.specs.declared.cycle.Action.{Action}
 use Rattle.chip.specs.declared.cycle.Action.the-variants.{Read, Write, Idle, Cut}
 use Rattle.job.specs.Loading.{beginLoad}
 use Rattle.numbers.specs.declared.machine.DriverNumbers.{DriverNumbers}
-use Rattle.numbers.specs.declared.cycle.DeviceNumbers.{DeviceNumbers}
+use Rattle.bus.specs.declared.cycle.DeviceNumbers.{DeviceNumbers}
 use Rattle.numbers.specs.declared.loading.LoadingNumbers.{LoadingNumbers}
 use Rattle.numbers.specs.Machine.{steppedOf}
-use Rattle.numbers.specs.Cycle.{high, cycledOf}
+use Rattle.bus.specs.Cycle.{high, cycledOf}
 use Rattle.numbers.specs.Loading.{beginNumbers, turnedOf}
 
 -- a call on such numbers: what it is given

@@ -53,6 +53,10 @@ use Rattle.driver.proofs.command_writes.Kinds as command-writes-kinds
 use Rattle.driver.proofs.command_writes.Reads as command-writes-reads
 use Rattle.driver.proofs.kth_write.Kinds as kth-write-kinds
 use Rattle.driver.proofs.kth_write.Reads as kth-write-reads
+use Rattle.bus.proofs.device_numbers.Kinds as n-device-kinds
+use Rattle.bus.proofs.device_numbers.Reads as n-device-reads
+use Rattle.bus.proofs.cycled.Kinds as n-cycled-kinds
+use Rattle.bus.proofs.cycled.Reads as n-cycled-reads
 use Rattle.job.proofs.load.Kinds as load-kinds
 use Rattle.job.proofs.load.Reads as load-reads
 use Rattle.job.proofs.load_first.Kinds as load-first-kinds
@@ -65,10 +69,6 @@ use Rattle.numbers.proofs.start_numbers.Kinds as n-start-kinds
 use Rattle.numbers.proofs.start_numbers.Reads as n-start-reads
 use Rattle.numbers.proofs.stepped.Kinds as n-stepped-kinds
 use Rattle.numbers.proofs.stepped.Reads as n-stepped-reads
-use Rattle.numbers.proofs.device_numbers.Kinds as n-device-kinds
-use Rattle.numbers.proofs.device_numbers.Reads as n-device-reads
-use Rattle.numbers.proofs.cycled.Kinds as n-cycled-kinds
-use Rattle.numbers.proofs.cycled.Reads as n-cycled-reads
 use Rattle.numbers.proofs.begin_numbers.Kinds as n-begin-kinds
 use Rattle.numbers.proofs.begin_numbers.Reads as n-begin-reads
 use Rattle.numbers.proofs.turned.Kinds as n-turned-kinds

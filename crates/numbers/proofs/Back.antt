@@ -5,27 +5,18 @@ use mathlib.Core.Bool.{Bool, true, false}
 use mathlib.Core.List.{List}
 use native.Mathlib.Omega.{arith}
 use lib.Dec.{eqb, ltb}
-use lib.ListN.{length}
-use borrow.Author.Tests.{eq-eqb, ne-eqb, lt-ltb, le-ltb}
-use Rattle.parts.specs.Names.{WRONG-CELLS, BAD-STATE}
-use Rattle.parts.specs.Pick.{_when_, _unless_, _else_, _orElse_}
+use borrow.Author.Tests.{lt-ltb, le-ltb}
+use Rattle.parts.specs.Pick.{_when_, _else_}
 use Rattle.parts.specs.Width.{valueOf}
-use Rattle.parts.specs.Table.{rowOf, partRefusal}
+use Rattle.parts.specs.Table.{rowOf}
 use Rattle.parts.specs.declared.table.Row.{Row}
 use Rattle.parts.proofs.Every.{apart, split}
-use Rattle.commands.specs.declared.effect.Mode.{Mode}
-use Rattle.commands.specs.declared.effect.Mode.the-variants.{ReadMode, Identification}
-use Rattle.chip.specs.declared.device.Device.{Device}
-use Rattle.chip.specs.declared.cycle.Action.{Action}
-use Rattle.chip.specs.Device.{operation, core, device, stageInRange, deviceInRange}
-use Rattle.chip.specs.declared.cycle.Cycle.{Cycle}
-use Rattle.chip.specs.Cycle.{chip, afterTime, acceptedOf, cycleOf, cycleRefusal}
-use Rattle.chip.proofs.Cases.{acted-answers}
 use Rattle.driver.specs.declared.machine.Phase.{Phase}
 use Rattle.driver.specs.declared.machine.Phase.the-variants.{Writing, Polling, Confirming, Done, GaveUp, Differs}
 use Rattle.driver.specs.declared.machine.Driver.{Driver}
 use Rattle.driver.specs.declared.machine.Step.{Step}
 use Rattle.driver.specs.Machine.{driver, inRange, valueWanted, ended, matches, mostPolls, polls, writingOf, pollingOf, confirmingOf, phaseOf, stepOf}
+use Rattle.bus.proofs.Back.{level-back}
 use Rattle.job.specs.declared.loader.Stage.{Stage}
 use Rattle.job.specs.declared.loader.Stage.the-variants.{Scanning, Looking, Driving}
 use Rattle.job.specs.declared.loader.Task.the-variants.{Erasing, Filling, Burning}
@@ -37,9 +28,7 @@ use Rattle.job.specs.Loader.{loader}
 use Rattle.job.specs.Loading.{loading, isEnding, movedTo, loadTurn, LoadTurned, loadTurned, loadTurnOf}
 use Rattle.job.proofs.AsItCame.{as-it-came}
 use Rattle.numbers.specs.declared.machine.DriverNumbers.{DriverNumbers}
-use Rattle.numbers.specs.declared.cycle.DeviceNumbers.{DeviceNumbers}
 use Rattle.numbers.specs.Machine.{phaseNumber, phaseAt, driverNumbers, driverOf, nextNumbers, nextOf, stepNumbers, noDriverState, steppedOf}
-use Rattle.numbers.specs.Cycle.{high, bitNumber, deviceNumbers, deviceOf, noState, replyNumbers, cycledNumbers}
 use Rattle.numbers.specs.declared.loading.LoadingNumbers.{LoadingNumbers}
 use Rattle.numbers.specs.Loading.{stageNumbers, progressNumbers, loadingNumbers, taskAt, stageAt, progressAt, loadingOf, noTurn, turnNumbers, TurnedNumbers, toldTurned, turnedNumbers, noStateTurned, turnedOf}
 
@@ -117,41 +106,7 @@ pub next-back : (d : Driver) (read : ℕ) → NextBack (stepOf d read)
 unfolding nextOf stepOf
 next-back d read = split NextBack (inRange d) _ _ (λ _. phases-name (rowOf (d .part)) (d .phase) d read) (λ _. refl)
 
--- ---- the device
-device-mode : (m : Mode) (k a x l : ℕ) (t : Bool) (s : ℕ)
-    → deviceOf (deviceNumbers (device (core m (operation k a x l t)) s)) ≡ device (core m (operation k a x l t)) s
-unfolding deviceOf
-device-mode ReadMode k a x l true s = refl
-device-mode ReadMode k a x l false s = refl
-device-mode Identification k a x l true s = refl
-device-mode Identification k a x l false s = refl
-
--- the numbers of a device are read as that device
-pub device-back : (d : Device) → deviceOf (deviceNumbers d) ≡ d
-device-back d =
-    let o = d .core .running in
-    device-mode (d .core .mode) (o .kind) (o .address) (o .«data») (o .left) (o .toggle) (d .stage)
-
--- a mode or a toggle above 1 is no state
-pub bad-mode : (n : DeviceNumbers) → 1 < n .mode → deviceOf n ≡ noState
-unfolding deviceOf
-bad-mode n h = simp (lt-ltb _ _ h)
-
-pub bad-toggle : (n : DeviceNumbers) → n .mode ≤ 1 → 1 < n .toggle → deviceOf n ≡ noState
-unfolding deviceOf
-bad-toggle n m h = simp (le-ltb _ _ m, lt-ltb _ _ h)
-
--- numbers that are no state: 1 and 2 come first, then 5
-pub no-device : (part lent : ℕ) (n : DeviceNumbers) (a : Action) → deviceOf n ≡ noState
-    → cycleRefusal part lent (deviceOf n) a ≡ (partRefusal part orElse WRONG-CELLS unless eqb lent (rowOf part .cells) else BAD-STATE)
-unfolding cycleRefusal deviceInRange stageInRange
-no-device part lent n a h = simp h
-
 -- ---- the job under way
-pub level-back : (b : Bool) → high (bitNumber b) ≡ b
-level-back true = refl
-level-back false = refl
-
 -- as far as the numbers say
 abbrev levelled : Loading → Progress → Bool → Loading
 levelled g x b = loading (g .part) (g .first) (g .count) b (g .p) x
@@ -243,19 +198,3 @@ refused-turn n image seen read = by (ltb 6 (n .progress)) (ltb 5 (n .driver .pha
     by true d = λ _. refl
     by false true = λ _. refl
     by false false = last (isEnding (t .turn .answer)) refl
-
--- ---- a cycle on the device that the numbers mean
-module _ (part : ℕ) (cells : List ℕ) (n : DeviceNumbers) (c : Cycle) where
-  -- refused: its number, value 0, the numbers as they came, and no cell changed
-  pub refused-numbers : (k : ℕ) → 0 < k → cycleRefusal part (length cells) (deviceOf n) (c .action) ≡ k
-      → cycledNumbers n (cycleOf part cells (deviceOf n) c) ≡ record { cells = cells; reply = record { answer = k; value = 0; device = n } }
-  unfolding replyNumbers cycleOf
-  refused-numbers k h r = simp (r, ne-eqb k 0 (λ z. omega arith), lt-ltb 0 k h)
-
-  -- not refused: 0, and the numbers of the device that it leaves
-  pub taken-numbers : cycleRefusal part (length cells) (deviceOf n) (c .action) ≡ 0 → let o = acceptedOf (rowOf part) cells (deviceOf n) c in
-      cycledNumbers n (cycleOf part cells (deviceOf n) c)
-      ≡ record { cells = o .cells; reply = record { answer = 0; value = o .reply .value; device = deviceNumbers (o .reply .device) } }
-  unfolding replyNumbers cycleOf acceptedOf
-  taken-numbers z =
-      rw (eq-eqb (cycleRefusal part (length cells) (deviceOf n) (c .action)) 0 z, acted-answers (rowOf part) (afterTime (rowOf part) (chip cells (deviceOf n)) (c .elapsed)) (c .wp) (c .action))

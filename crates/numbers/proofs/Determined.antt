@@ -9,10 +9,6 @@ use Rattle.numbers.proofs.machine.start_numbers.Kinds as start-kinds
 use Rattle.numbers.proofs.machine.start_numbers.Reads as start-reads
 use Rattle.numbers.proofs.machine.stepped.Kinds as stepped-kinds
 use Rattle.numbers.proofs.machine.stepped.Reads as stepped-reads
-use Rattle.numbers.proofs.cycle.device_numbers.Kinds as device-kinds
-use Rattle.numbers.proofs.cycle.device_numbers.Reads as device-reads
-use Rattle.numbers.proofs.cycle.cycled.Kinds as cycled-kinds
-use Rattle.numbers.proofs.cycle.cycled.Reads as cycled-reads
 use Rattle.numbers.proofs.loading.begin_numbers.Kinds as begin-kinds
 use Rattle.numbers.proofs.loading.begin_numbers.Reads as begin-reads
 use Rattle.numbers.proofs.loading.turned.Kinds as turned-kinds
@@ -23,14 +19,6 @@ start-numbers-unique κs a x y s t p q = p ∙ sym q
 
 pub stepped-unique : Unique stepped-kinds.ps stepped-kinds.r stepped-reads.Post
 stepped-unique κs a x y s t p q = p ∙ sym q
-
-pub device-numbers-unique : Unique device-kinds.ps device-kinds.r device-reads.Post
-device-numbers-unique κs a x y s t p q = p ∙ sym q
-
-pub cycled-unique : (κs : Lfts 1) (a : Dens κs cycled-kinds.ps) (x y : resT cycled-kinds.r κs .Denot)
-    (s t : AtExit (endedOf 1 cycled-kinds.ps cycled-kinds.r) κs) → cycled-reads.Post κs a x s → cycled-reads.Post κs a y t
-    → (x ≡ y) × (s .1 .0 .now ≡ t .1 .0 .now)
-cycled-unique κs a x y s t p q = (p .0 ∙ sym (q .0), p .1 ∙ sym (q .1))
 
 pub begin-numbers-unique : Unique begin-kinds.ps begin-kinds.r begin-reads.Post
 begin-numbers-unique κs a x y s t p q = p ∙ sym q

@@ -6,18 +6,18 @@ use Rattle.chip.specs.declared.cycle.Cycle.{Cycle}
 use Rattle.chip.specs.Cycle.{Chip, cycleOf}
 use Rattle.chip.specs.Trace.{after}
 use Rattle.driver.specs.Talk.{shows}
+use Rattle.bus.specs.Cycle.{deviceNumbers, deviceOf, cycledNumbers}
+use Rattle.bus.proofs.Back.{level-back, device-back, cycle-of-device}
 use Rattle.job.specs.declared.loading.Loading.{Loading}
 use Rattle.job.specs.declared.loading.Sending.{Sending}
 use Rattle.job.specs.declared.loading.Sending.the-variants.{SendsNothing, Sends}
 use Rattle.job.specs.Loading.{loadTurn, LoadTurned, loadTurned}
 use Rattle.job.specs.Socket.{loadTalk, loadHeard}
 use Rattle.numbers.specs.Machine.{nextOf}
-use Rattle.numbers.specs.Cycle.{deviceNumbers, deviceOf, cycledNumbers}
 use Rattle.numbers.specs.Loading.{loadingNumbers, sendingNumbers, toldTurned, turnedOf}
 use Rattle.numbers.specs.JobLoop.{turnsWith, nextSent, JobLooped, jobLooped, jobToldNumbers, jobLoop, JobAnswered, jobAnswered, jobHeardNumbers, jobHearing}
-use Rattle.numbers.proofs.Back.{level-back, device-back, turn-of-loading}
+use Rattle.numbers.proofs.Back.{turn-of-loading}
 use Rattle.numbers.proofs.Names.{SendingBack, sending-back}
-use Rattle.numbers.proofs.Loop.{cycle-of-device}
 
 module _ (image : List ℕ) where
   abbrev turning : Loading → List ℕ → ℕ → LoadTurned

@@ -1,47 +1,21 @@
 -- The C controller's loop is the driver's talk, as numbers.
-use Prim.Native.Nat.{ℕ, zero, suc, _<_}
-use native.Mathlib.Omega.{arith}
+use Prim.Native.Nat.{ℕ, zero, suc}
 use mathlib.Core.Path.{_≡_, refl, ap, _∙_}
-use mathlib.Core.Bool.{Bool, true, false}
-use mathlib.Core.List.{List, _∷_}
-use lib.Dec.{eqb}
-use lib.ListN.{length}
-use borrow.Author.Tests.{eqb-false, lt-ltb}
-use Rattle.parts.specs.Table.{rowOf}
-use Rattle.chip.specs.declared.device.Device.{Device}
+use mathlib.Core.List.{_∷_}
 use Rattle.chip.specs.declared.cycle.Action.{Action}
-use Rattle.chip.specs.declared.cycle.Cycle.{Cycle}
-use Rattle.chip.specs.Cycle.{Chip, chip, cycle, cycleRefusal, afterTime, acceptedOf, cycleOf}
+use Rattle.chip.specs.Cycle.{Chip, cycle}
 use Rattle.chip.specs.Trace.{after}
-use Rattle.chip.proofs.Cases.{acted-answers}
 use Rattle.driver.specs.declared.machine.Driver.{Driver}
 use Rattle.driver.specs.declared.machine.Next.{Next}
 use Rattle.driver.specs.declared.machine.Next.the-variants.{Nothing, Send}
 use Rattle.driver.specs.declared.machine.Step.{Step}
 use Rattle.driver.specs.Machine.{stepOf}
 use Rattle.driver.specs.Talk.{shows, talk, heard}
+use Rattle.bus.specs.Cycle.{high, deviceNumbers, cycledOf}
+use Rattle.bus.proofs.Back.{device-back, cycle-of-device}
 use Rattle.numbers.specs.Machine.{driverNumbers, stepNumbers, steppedOf}
-use Rattle.numbers.specs.Cycle.{high, deviceNumbers, replyNumbers, cycledOf}
 use Rattle.numbers.specs.Loop.{Looped, looped, toldNumbers, loop, Answered, answered, heardNumbers, loopHearing}
-use Rattle.numbers.proofs.Back.{NextBack, step-of-driver, next-back, device-back}
-
-positive : (n : ℕ) → (n ≡ 0 → ⊥) → 0 < n
-positive zero h = absurd (h refl)
-positive (suc n) h = omega arith
-
--- a cycle on the numbers of a device: the numbers of its reply
-pub cycle-of-device : (part : ℕ) (cells : List ℕ) (d : Device) (c : Cycle) → let r = cycleOf part cells d c .reply in
-    replyNumbers (deviceNumbers d) r ≡ record { answer = r .answer; value = r .value; device = deviceNumbers (r .device) }
-unfolding replyNumbers cycleOf acceptedOf
-cycle-of-device part cells d c = by (eqb n 0) refl
-  where
-    n : ℕ
-    n = cycleRefusal part (length cells) d (c .action)
-
-    by : (t : Bool) → eqb n 0 ≡ t → let r = cycleOf part cells d c .reply in
-        replyNumbers (deviceNumbers d) r ≡ record { answer = r .answer; value = r .value; device = deviceNumbers (r .device) }
-    by true t = rw (t, acted-answers (rowOf part) (afterTime (rowOf part) (chip cells d) (c .elapsed)) (c .wp) (c .action))
-    by false t = rw (t, lt-ltb 0 n (positive n (eqb-false n 0 t)))
+use Rattle.numbers.proofs.Back.{NextBack, step-of-driver, next-back}
 
 module _ (wp : ℕ) where
   -- ---- against the model

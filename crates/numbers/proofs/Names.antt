@@ -32,7 +32,7 @@ use Rattle.job.specs.declared.loading.Sending.the-variants.{SendsNothing}
 use Rattle.numbers.specs.Machine.{sentNumbers, nextNumbers, nextOf}
 use Rattle.numbers.specs.Loading.{sendingNumbers}
 use Rattle.numbers.specs.JobLoop.{nextSent}
-use Rattle.numbers.proofs.Back.{NextBack, next-back}
+use Rattle.numbers.proofs.Back.{next-back}
 
 -- the numbers of what a turn names tell it
 abbrev pub SendingBack : LoadTurn → Type 0

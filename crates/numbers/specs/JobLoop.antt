@@ -5,15 +5,15 @@ use Rattle.chip.specs.declared.cycle.Cycle.{Cycle}
 use Rattle.chip.specs.Cycle.{cycle}
 use Rattle.driver.specs.declared.machine.Next.{Next}
 use Rattle.driver.specs.declared.machine.Next.the-variants.{Nothing, Send}
+use Rattle.bus.specs.declared.cycle.DeviceNumbers.{DeviceNumbers}
+use Rattle.bus.specs.Cycle.{high, deviceNumbers, cycledOf}
 use Rattle.job.specs.declared.loading.Loading.{Loading}
 use Rattle.job.specs.declared.loading.Sending.{Sending}
 use Rattle.job.specs.declared.loading.Sending.the-variants.{SendsNothing, Sends}
 use Rattle.job.specs.Run.{Sent}
 use Rattle.job.specs.Loading.{LoadTurned, loadTurnOf}
 use Rattle.job.specs.Socket.{LoadTold, LoadHeard}
-use Rattle.numbers.specs.declared.cycle.DeviceNumbers.{DeviceNumbers}
 use Rattle.numbers.specs.Machine.{nextOf}
-use Rattle.numbers.specs.Cycle.{high, deviceNumbers, cycledOf}
 use Rattle.numbers.specs.Loading.{TurnedNumbers, toldTurned, turnedOf}
 
 -- the library's turn, always with this image

@@ -1,5 +1,4 @@
 pub mod Machine
-pub mod Cycle
 pub mod Loop
 pub mod Loading
 pub mod JobLoop

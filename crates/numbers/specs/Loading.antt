@@ -5,6 +5,7 @@ use lib.Dec.{eqb, ltb}
 use Rattle.parts.specs.Names.{BAD-STATE}
 use Rattle.parts.specs.Pick.{pick, _when_, _else_}
 use Rattle.driver.specs.Machine.{noDriver}
+use Rattle.bus.specs.Cycle.{high, bitNumber}
 use Rattle.job.specs.declared.loader.Task.{Task}
 use Rattle.job.specs.declared.loader.Task.the-variants.{Erasing, Filling, Burning}
 use Rattle.job.specs.declared.loader.Stage.{Stage}
@@ -23,21 +24,48 @@ use Rattle.numbers.specs.declared.machine.CycleNumbers.{CycleNumbers}
 use Rattle.numbers.specs.declared.loading.LoadingNumbers.{LoadingNumbers}
 use Rattle.numbers.specs.declared.loading.BeginNumbers.{BeginNumbers}
 use Rattle.numbers.specs.declared.loading.TurnNumbers.{TurnNumbers}
-use Rattle.numbers.specs.Machine.{driverNumbers, driverOf, noCycle, sentNumbers}
-use Rattle.numbers.specs.Cycle.{high, bitNumber}
+use Rattle.numbers.specs.Machine.{ENDED-DIFFERS, driverNumbers, driverOf, noCycle, sentNumbers}
 
--- ---- how far a job is: 0 waiting, 1 scanning, 2 looking, 3 to 5 driving, 6 over
+-- ---- how far a job is, by number. Capitals as in the source
+-- no cycle is named yet
+abbrev pub WAITING : ℕ
+WAITING = 0
+
+-- a sector is read
+abbrev pub SCANNING : ℕ
+SCANNING = 1
+
+-- it stays unerased, and is read again
+abbrev pub LOOKING : ℕ
+LOOKING = 2
+
+-- a driver erases the sector
+abbrev pub ERASING : ℕ
+ERASING = 3
+
+-- it programs a cell of an erased one
+abbrev pub FILLING : ℕ
+FILLING = 4
+
+-- or of one that stays unerased
+abbrev pub BURNING : ℕ
+BURNING = 5
+
+-- the job has ended
+abbrev pub OVER : ℕ
+OVER = 6
+
 -- what is driven: an erase, a fill or a burn
 abbrev pub taskNumber : Task → ℕ
-taskNumber Erasing = 3
-taskNumber Filling = 4
-taskNumber Burning = 5
+taskNumber Erasing = ERASING
+taskNumber Filling = FILLING
+taskNumber Burning = BURNING
 
 -- a burn for any number but the first two
 unfoldable pub taskAt : ℕ → Task
 taskAt n =
-    Erasing when eqb n 3
-    else Filling when eqb n 4
+    Erasing when eqb n ERASING
+    else Filling when eqb n FILLING
     else Burning
 
 -- ---- the numbers of a job under way
@@ -61,14 +89,14 @@ loadingAt g progress base i d n =
     }
 
 abbrev pub stageNumbers : Loading → Stage → ℕ → ℕ → LoadingNumbers
-stageNumbers g Scanning base i = loadingAt g 1 base i noDriverNumbers 0
-stageNumbers g Looking base i = loadingAt g 2 base i noDriverNumbers 0
+stageNumbers g Scanning base i = loadingAt g SCANNING base i noDriverNumbers 0
+stageNumbers g Looking base i = loadingAt g LOOKING base i noDriverNumbers 0
 stageNumbers g (Driving t d) base i = loadingAt g (taskNumber t) base i (driverNumbers d) 0
 
 abbrev pub progressNumbers : Loading → Progress → LoadingNumbers
-progressNumbers g Waiting = loadingAt g 0 0 0 noDriverNumbers 0
+progressNumbers g Waiting = loadingAt g WAITING 0 0 noDriverNumbers 0
 progressNumbers g (Within l) = stageNumbers g (l .stage) (l .base) (l .at)
-progressNumbers g (Over n) = loadingAt g 6 0 0 noDriverNumbers n
+progressNumbers g (Over n) = loadingAt g OVER 0 0 noDriverNumbers n
 
 abbrev pub loadingNumbers : Loading → LoadingNumbers
 loadingNumbers g = progressNumbers g (g .progress)
@@ -76,14 +104,14 @@ loadingNumbers g = progressNumbers g (g .progress)
 -- ---- the job under way of some numbers
 unfoldable pub stageAt : ℕ → DriverNumbers → Stage
 stageAt n d =
-    Scanning when eqb n 1
-    else Looking when eqb n 2
+    Scanning when eqb n SCANNING
+    else Looking when eqb n LOOKING
     else Driving (taskAt n) (driverOf d)
 
 unfoldable pub progressAt : LoadingNumbers → Progress
 progressAt n =
-    Waiting when eqb (n .progress) 0
-    else Over (n .ending) when eqb (n .progress) 6
+    Waiting when eqb (n .progress) WAITING
+    else Over (n .ending) when eqb (n .progress) OVER
     else Within (loader (stageAt (n .progress) (n .driver)) (n .base) (n .at))
 
 abbrev pub loadingOf : LoadingNumbers → Loading
@@ -136,9 +164,9 @@ turnedNumbers n t = record { seen = t .seen; turn = turnNumbers n (t .turn) }
 abbrev pub noStateTurned : LoadingNumbers → List ℕ → TurnedNumbers
 noStateTurned n seen = record { seen = seen; turn = noTurn BAD-STATE n }
 
--- 5 for numbers that are no state: farther than 6, or a driver's phase above 5
+-- 5 for numbers that are no state: farther than over, or a driver's phase past the last
 unfoldable pub turnedOf : LoadingNumbers → List ℕ → List ℕ → ℕ → TurnedNumbers
 turnedOf n image seen read =
-    noStateTurned n seen when ltb 6 (n .progress)
-    else noStateTurned n seen when ltb 5 (n .driver .phase)
+    noStateTurned n seen when ltb OVER (n .progress)
+    else noStateTurned n seen when ltb ENDED-DIFFERS (n .driver .phase)
     else turnedNumbers n (loadTurnOf (loadingOf n) image seen read)

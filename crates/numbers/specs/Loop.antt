@@ -5,10 +5,10 @@ use Rattle.chip.specs.declared.cycle.Cycle.{Cycle}
 use Rattle.chip.specs.Cycle.{cycle}
 use Rattle.driver.specs.declared.machine.Next.the-variants.{Nothing, Send}
 use Rattle.driver.specs.Talk.{Told, Heard}
+use Rattle.bus.specs.declared.cycle.DeviceNumbers.{DeviceNumbers}
+use Rattle.bus.specs.Cycle.{high, deviceNumbers, cycledOf}
 use Rattle.numbers.specs.declared.machine.StepNumbers.{StepNumbers}
-use Rattle.numbers.specs.declared.cycle.DeviceNumbers.{DeviceNumbers}
 use Rattle.numbers.specs.Machine.{nextOf, stepNumbers, steppedOf}
-use Rattle.numbers.specs.Cycle.{high, deviceNumbers, cycledOf}
 
 -- ---- against the model
 -- the cycles sent, the cells and the device that they left, and the step that stands

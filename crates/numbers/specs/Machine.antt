@@ -18,23 +18,48 @@ use Rattle.numbers.specs.declared.machine.StartNumbers.{StartNumbers}
 use Rattle.numbers.specs.declared.machine.CycleNumbers.{CycleNumbers}
 use Rattle.numbers.specs.declared.machine.StepNumbers.{StepNumbers}
 
--- ---- the phases, in their order
+-- ---- the phases by number: how far a driver is. Capitals as in the source, its `_` as `-`
+-- its writes are named
+abbrev pub WRITING : ℕ
+WRITING = 0
+
+-- its polls
+abbrev pub POLLING : ℕ
+POLLING = 1
+
+-- the confirming read
+abbrev pub CONFIRMING : ℕ
+CONFIRMING = 2
+
+-- done
+abbrev pub ENDED-DONE : ℕ
+ENDED-DONE = 3
+
+-- polling gave up
+abbrev pub ENDED-GAVE-UP : ℕ
+ENDED-GAVE-UP = 4
+
+-- the confirming read differs
+abbrev pub ENDED-DIFFERS : ℕ
+ENDED-DIFFERS = 5
+
+-- the number of a phase
 abbrev pub phaseNumber : Phase → ℕ
-phaseNumber Writing = 0
-phaseNumber Polling = 1
-phaseNumber Confirming = 2
-phaseNumber Done = 3
-phaseNumber GaveUp = 4
-phaseNumber Differs = 5
+phaseNumber Writing = WRITING
+phaseNumber Polling = POLLING
+phaseNumber Confirming = CONFIRMING
+phaseNumber Done = ENDED-DONE
+phaseNumber GaveUp = ENDED-GAVE-UP
+phaseNumber Differs = ENDED-DIFFERS
 
 -- the phase of a number: the last for any above it
 unfoldable pub phaseAt : ℕ → Phase
 phaseAt n =
-    Writing when eqb n 0
-    else Polling when eqb n 1
-    else Confirming when eqb n 2
-    else Done when eqb n 3
-    else GaveUp when eqb n 4
+    Writing when eqb n WRITING
+    else Polling when eqb n POLLING
+    else Confirming when eqb n CONFIRMING
+    else Done when eqb n ENDED-DONE
+    else GaveUp when eqb n ENDED-GAVE-UP
     else Differs
 
 -- ---- the driver
@@ -71,7 +96,7 @@ abbrev pub nextNumbers : Next → CycleNumbers
 nextNumbers Nothing = noCycle
 nextNumbers (Send e a) = sentNumbers e a
 
--- the cycle of some numbers: any kind but 0 and 1 is a write
+-- the cycle of some numbers: any kind but none and a read is a write
 unfoldable pub nextOf : CycleNumbers → Next
 nextOf n =
     Nothing when eqb (n .kind) NO-CYCLE
@@ -89,6 +114,6 @@ stepNumbers s = record { answer = s .answer; driver = driverNumbers (s .driver);
 abbrev pub noDriverState : DriverNumbers → StepNumbers
 noDriverState n = record { answer = BAD-STATE; driver = n; cycle = noCycle; polls = 0 }
 
--- a number above 5 is no phase
+-- a number above the last phase's is no phase
 unfoldable pub steppedOf : DriverNumbers → ℕ → StepNumbers
-steppedOf n read = noDriverState n when ltb 5 (n .phase) else stepNumbers (stepOf (driverOf n) read)
+steppedOf n read = noDriverState n when ltb ENDED-DIFFERS (n .phase) else stepNumbers (stepOf (driverOf n) read)

@@ -1,12 +1,7 @@
-// The states of a driver, of a device and of a job as plain numbers, and the calls on them: each takes any numbers.
-mod cycle;
+// The states of a driver and of a job as plain numbers, and the calls on them: each takes any numbers.
 mod loading;
 mod machine;
 
-pub use cycle::DeviceNumbers;
-pub use cycle::ReplyNumbers;
-pub use cycle::cycled;
-pub use cycle::device_numbers;
 pub use loading::BeginNumbers;
 pub use loading::LoadingNumbers;
 pub use loading::TurnNumbers;

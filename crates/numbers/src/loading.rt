@@ -1,13 +1,11 @@
 // The loader for a real socket as plain numbers: its job, its begin and its turn. Any numbers may be given.
-use crate::cycle::bit_number;
 use crate::machine::CycleNumbers;
 use crate::machine::DriverNumbers;
-use crate::machine::ENDED_DIFFERENT;
+use crate::machine::ENDED_DIFFERS;
+use crate::machine::NOTHING_TO_SEND;
 use crate::machine::driver_numbers;
 use crate::machine::driver_of;
-use crate::machine::no_cycle;
 use crate::machine::sent_numbers;
-use chip::Cycle;
 use job::Begun;
 use job::LoadTurn;
 use job::Loader;
@@ -20,8 +18,8 @@ use parts::names::BAD_STATE;
 use parts::names::DIFFERS;
 use parts::names::GAVE_UP;
 ghost use mathlib.Core.Path.{_≡_};
-ghost use Rattle.numbers.specs.Machine.{sentNumbers};
-ghost use Rattle.numbers.specs.Loading.{beginNumbers, loadingAt, loadingNumbers, loadingOf, noDriverNumbers, noTurn, progressAt, progressNumbers, sendingLevel, sendingNumbers, stageAt, stageNumbers, taskAt, taskNumber, toldTurn, turnNumbers, turnedOf};
+ghost use Rattle.bus.specs.Cycle.{bitNumber};
+ghost use Rattle.numbers.specs.Loading.{beginNumbers, loadingAt, loadingNumbers, loadingOf, noDriverNumbers, noTurn, progressAt, sendingLevel, sendingNumbers, stageAt, stageNumbers, taskAt, taskNumber, toldTurn, turnNumbers, turnedOf};
 
 // ---- how far a job is
 const WAITING: u32 = 0;
@@ -30,11 +28,11 @@ const SCANNING: u32 = 1;
 
 const LOOKING: u32 = 2;
 
-const DRIVING_AN_ERASE: u32 = 3;
+const ERASING: u32 = 3;
 
-const DRIVING_A_FILL: u32 = 4;
+const FILLING: u32 = 4;
 
-const DRIVING_A_BURN: u32 = 5;
+const BURNING: u32 = 5;
 
 const OVER: u32 = 6;
 
@@ -74,9 +72,9 @@ fn task_number(task: Task) -> u32
     ensures { λ r. ⌜ r ≡ taskNumber task ⌝ }
 {
     match task {
-        Task::Erasing => DRIVING_AN_ERASE,
-        Task::Filling => DRIVING_A_FILL,
-        Task::Burning => DRIVING_A_BURN,
+        Task::Erasing => ERASING,
+        Task::Filling => FILLING,
+        Task::Burning => BURNING,
     }
 }
 
@@ -84,10 +82,10 @@ fn task_number(task: Task) -> u32
 fn task_at(n: u32) -> Task
     ensures { λ r. ⌜ r ≡ taskAt n ⌝ }
 {
-    if n == DRIVING_AN_ERASE {
+    if n == ERASING {
         return Task::Erasing;
     }
-    if n == DRIVING_A_FILL {
+    if n == FILLING {
         return Task::Filling;
     }
     Task::Burning
@@ -108,6 +106,16 @@ fn no_driver_numbers() -> DriverNumbers
     }
 }
 
+// The number of a level.
+fn level_number(high: bool) -> u32
+    ensures { λ r. ⌜ r ≡ bitNumber high ⌝ }
+{
+    if high {
+        return 1;
+    }
+    0
+}
+
 // The numbers of a job that is as far as this.
 fn loading_at(
     g: Loading,
@@ -123,7 +131,7 @@ fn loading_at(
         part: g.part,
         first: g.first,
         count: g.count,
-        wp: bit_number(g.wp),
+        wp: level_number(g.wp),
         p: g.p,
         progress,
         base,
@@ -144,14 +152,6 @@ fn stage_numbers(g: Loading, stage: Stage, base: u32, at: u32) -> LoadingNumbers
     }
 }
 
-// The numbers of a job within a sector.
-fn within_numbers(g: Loading, loader: Loader) -> LoadingNumbers
-    ensures { λ r. ⌜ r ≡ progressNumbers g (Progress.Within loader) ⌝ }
-{
-    let stage = loader.stage;
-    stage_numbers(g, stage, loader.base, loader.at)
-}
-
 // The numbers of a job under way.
 fn loading_numbers(g: Loading) -> LoadingNumbers
     ensures { λ r. ⌜ r ≡ loadingNumbers g ⌝ }
@@ -159,7 +159,10 @@ fn loading_numbers(g: Loading) -> LoadingNumbers
     let progress = g.progress;
     match progress {
         Progress::Waiting => loading_at(g, WAITING, 0, 0, no_driver_numbers(), 0),
-        Progress::Within(loader) => within_numbers(g, loader),
+        Progress::Within(loader) => {
+            let stage = loader.stage;
+            stage_numbers(g, stage, loader.base, loader.at)
+        }
         Progress::Over(n) => loading_at(g, OVER, 0, 0, no_driver_numbers(), n),
     }
 }
@@ -221,21 +224,16 @@ pub fn begin_numbers(b: Begun) -> BeginNumbers
     }
 }
 
-// The numbers of a cycle that a turn names.
-fn cycle_numbers(cycle: Cycle) -> CycleNumbers
-    ensures { λ r. ⌜ r ≡ sentNumbers (cycle .elapsed) (cycle .action) ⌝ }
-{
-    let action = cycle.action;
-    sent_numbers(cycle.elapsed, action)
-}
-
 // The numbers of what a turn names.
 fn sending_numbers(next: Sending) -> CycleNumbers
     ensures { λ r. ⌜ r ≡ sendingNumbers next ⌝ }
 {
     match next {
-        Sending::SendsNothing => no_cycle(),
-        Sending::Sends(_, cycle) => cycle_numbers(cycle),
+        Sending::SendsNothing => NOTHING_TO_SEND,
+        Sending::Sends(_, cycle) => {
+            let action = cycle.action;
+            sent_numbers(cycle.elapsed, action)
+        }
     }
 }
 
@@ -245,7 +243,7 @@ fn sending_level(next: Sending) -> u32
 {
     match next {
         Sending::SendsNothing => 0,
-        Sending::Sends(_, cycle) => bit_number(cycle.wp),
+        Sending::Sends(_, cycle) => level_number(cycle.wp),
     }
 }
 
@@ -270,7 +268,7 @@ fn no_turn(answer: u32, given: LoadingNumbers) -> TurnNumbers
     TurnNumbers {
         answer,
         loading: given,
-        cycle: no_cycle(),
+        cycle: NOTHING_TO_SEND,
         wp: 0,
     }
 }
@@ -305,7 +303,7 @@ pub fn turned(
     if OVER < loading.progress {
         return no_turn(BAD_STATE, loading);
     }
-    if ENDED_DIFFERENT < d.phase {
+    if ENDED_DIFFERS < d.phase {
         return no_turn(BAD_STATE, loading);
     }
     let g = loading_of(loading);

@@ -10,7 +10,7 @@ use parts::names::A_WRITE;
 use parts::names::BAD_STATE;
 use parts::names::NO_CYCLE;
 ghost use mathlib.Core.Path.{_≡_};
-ghost use Rattle.numbers.specs.Machine.{driverNumbers, driverOf, nextNumbers, noCycle, phaseAt, phaseNumber, sentNumbers, startNumbers, stepNumbers, steppedOf};
+ghost use Rattle.numbers.specs.Machine.{driverNumbers, driverOf, nextNumbers, phaseAt, phaseNumber, sentNumbers, startNumbers, stepNumbers, steppedOf};
 
 // ---- the numbers of the phases
 const WRITING: u32 = 0;
@@ -19,11 +19,11 @@ const POLLING: u32 = 1;
 
 const CONFIRMING: u32 = 2;
 
-const DONE: u32 = 3;
+const ENDED_DONE: u32 = 3;
 
-const ENDED_GIVEN_UP: u32 = 4;
+const ENDED_GAVE_UP: u32 = 4;
 
-pub(crate) const ENDED_DIFFERENT: u32 = 5;
+pub(crate) const ENDED_DIFFERS: u32 = 5;
 
 // A driver as numbers.
 #[repr(C)]
@@ -62,6 +62,14 @@ pub struct StepNumbers {
     pub polls: u32,
 }
 
+// No cycle.
+pub(crate) const NOTHING_TO_SEND: CycleNumbers = CycleNumbers {
+    kind: NO_CYCLE,
+    elapsed: 0,
+    address: 0,
+    data: 0,
+};
+
 // The number of a phase.
 fn phase_number(phase: Phase) -> u32
     ensures { λ r. ⌜ r ≡ phaseNumber phase ⌝ }
@@ -70,9 +78,9 @@ fn phase_number(phase: Phase) -> u32
         Phase::Writing => WRITING,
         Phase::Polling => POLLING,
         Phase::Confirming => CONFIRMING,
-        Phase::Done => DONE,
-        Phase::GaveUp => ENDED_GIVEN_UP,
-        Phase::Differs => ENDED_DIFFERENT,
+        Phase::Done => ENDED_DONE,
+        Phase::GaveUp => ENDED_GAVE_UP,
+        Phase::Differs => ENDED_DIFFERS,
     }
 }
 
@@ -89,10 +97,10 @@ fn phase_at(n: u32) -> Phase
     if n == CONFIRMING {
         return Phase::Confirming;
     }
-    if n == DONE {
+    if n == ENDED_DONE {
         return Phase::Done;
     }
-    if n == ENDED_GIVEN_UP {
+    if n == ENDED_GAVE_UP {
         return Phase::GaveUp;
     }
     Phase::Differs
@@ -129,18 +137,6 @@ pub(crate) fn driver_of(n: DriverNumbers) -> Driver
     }
 }
 
-// No cycle.
-pub(crate) fn no_cycle() -> CycleNumbers
-    ensures { λ r. ⌜ r ≡ noCycle ⌝ }
-{
-    CycleNumbers {
-        kind: NO_CYCLE,
-        elapsed: 0,
-        address: 0,
-        data: 0,
-    }
-}
-
 // The numbers of a cycle that is sent: a read or a write.
 pub(crate) fn sent_numbers(elapsed: u32, action: Action) -> CycleNumbers
     ensures { λ r. ⌜ r ≡ sentNumbers elapsed action ⌝ }
@@ -158,8 +154,8 @@ pub(crate) fn sent_numbers(elapsed: u32, action: Action) -> CycleNumbers
             address,
             data,
         },
-        Action::Idle => no_cycle(),
-        Action::Cut(_) => no_cycle(),
+        Action::Idle => NOTHING_TO_SEND,
+        Action::Cut(_) => NOTHING_TO_SEND,
     }
 }
 
@@ -168,7 +164,7 @@ fn next_numbers(next: Next) -> CycleNumbers
     ensures { λ r. ⌜ r ≡ nextNumbers next ⌝ }
 {
     match next {
-        Next::Nothing => no_cycle(),
+        Next::Nothing => NOTHING_TO_SEND,
         Next::Send(elapsed, action) => sent_numbers(elapsed, action),
     }
 }
@@ -202,11 +198,11 @@ fn step_numbers(t: Step) -> StepNumbers
 pub fn stepped(state: DriverNumbers, read: u16) -> StepNumbers
     ensures { λ r. ⌜ r ≡ steppedOf state read ⌝ }
 {
-    if ENDED_DIFFERENT < state.phase {
+    if ENDED_DIFFERS < state.phase {
         return StepNumbers {
             answer: BAD_STATE,
             driver: state,
-            cycle: no_cycle(),
+            cycle: NOTHING_TO_SEND,
             polls: 0,
         };
     }

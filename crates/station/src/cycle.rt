@@ -1,17 +1,17 @@
 // The bus cycle: the device crosses as plain numbers, and any numbers may be given.
+use bus::DeviceNumbers;
+use bus::ReplyNumbers;
 use chip::Action;
-use numbers::DeviceNumbers;
-use numbers::ReplyNumbers;
 ghost use mathlib.Core.Path.{_≡_};
 ghost use Rattle.chip.specs.Device.{freshDevice};
-ghost use Rattle.numbers.specs.Cycle.{cycledOf, deviceNumbers};
+ghost use Rattle.bus.specs.Cycle.{cycledOf, deviceNumbers};
 
 // A fresh device.
 #[no_mangle]
 pub extern "C" fn station_fresh() -> DeviceNumbers
     ensures { λ r. ⌜ r ≡ deviceNumbers freshDevice ⌝ }
 {
-    numbers::device_numbers(chip::fresh())
+    bus::device_numbers(chip::fresh())
 }
 
 // A read: refusals 1, 2, 5, 3.
@@ -26,7 +26,7 @@ pub extern "C" fn station_read(
 ) -> ReplyNumbers
     ensures { λ r. ⌜ (r ≡ cycledOf part (now (cells .entry)) device elapsed wp (Action.Read address) .reply) × (now (cells .exit) ≡ cycledOf part (now (cells .entry)) device elapsed wp (Action.Read address) .cells) ⌝ }
 {
-    numbers::cycled(part, cells, device, elapsed, wp, Action::Read(address))
+    bus::cycled(part, cells, device, elapsed, wp, Action::Read(address))
 }
 
 // A write: refusals 1, 2, 5, 3, 4.
@@ -43,7 +43,7 @@ pub extern "C" fn station_write(
     ensures { λ r. ⌜ (r ≡ cycledOf part (now (cells .entry)) device elapsed wp (Action.Write address «data») .reply) × (now (cells .exit) ≡ cycledOf part (now (cells .entry)) device elapsed wp (Action.Write address «data») .cells) ⌝ }
 {
     let action = Action::Write(address, data);
-    numbers::cycled(part, cells, device, elapsed, wp, action)
+    bus::cycled(part, cells, device, elapsed, wp, action)
 }
 
 // An idle cycle: refusals 1, 2, 5.
@@ -57,7 +57,7 @@ pub extern "C" fn station_idle(
 ) -> ReplyNumbers
     ensures { λ r. ⌜ (r ≡ cycledOf part (now (cells .entry)) device elapsed wp Action.Idle .reply) × (now (cells .exit) ≡ cycledOf part (now (cells .entry)) device elapsed wp Action.Idle .cells) ⌝ }
 {
-    numbers::cycled(part, cells, device, elapsed, wp, Action::Idle)
+    bus::cycled(part, cells, device, elapsed, wp, Action::Idle)
 }
 
 // A power cut with a scar: refusals 1, 2, 5.
@@ -72,5 +72,5 @@ pub extern "C" fn station_cut(
 ) -> ReplyNumbers
     ensures { λ r. ⌜ (r ≡ cycledOf part (now (cells .entry)) device elapsed wp (Action.Cut scar) .reply) × (now (cells .exit) ≡ cycledOf part (now (cells .entry)) device elapsed wp (Action.Cut scar) .cells) ⌝ }
 {
-    numbers::cycled(part, cells, device, elapsed, wp, Action::Cut(scar))
+    bus::cycled(part, cells, device, elapsed, wp, Action::Cut(scar))
 }

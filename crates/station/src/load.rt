@@ -2,8 +2,8 @@
 use job::Bill;
 use job::Report;
 ghost use mathlib.Core.Path.{_≡_};
+ghost use Rattle.bus.specs.Cycle.{high};
 ghost use Rattle.job.specs.Bill.{loadOf, reportOf};
-ghost use Rattle.numbers.specs.Cycle.{high};
 
 // The job: loads the image from first on, and hands back the bill. Refusals 1, 2, 10, 6, 7, 8, 9.
 #[no_mangle]

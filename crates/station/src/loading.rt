@@ -3,8 +3,8 @@ use numbers::BeginNumbers;
 use numbers::LoadingNumbers;
 use numbers::TurnNumbers;
 ghost use mathlib.Core.Path.{_≡_};
+ghost use Rattle.bus.specs.Cycle.{high};
 ghost use Rattle.job.specs.Loading.{beginLoad};
-ghost use Rattle.numbers.specs.Cycle.{high};
 ghost use Rattle.numbers.specs.Loading.{beginNumbers, turnedOf};
 
 // Begins a job to which no cells are lent: refusals 1, 10, 6, 7, 8, 9.

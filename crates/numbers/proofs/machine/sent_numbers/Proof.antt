@@ -9,6 +9,12 @@ returns c = simp (c .before .action .given .1)
 returns-2 : tie.Need-returns-2
 returns-2 c = simp (c .before .action2 .given .1)
 
+returns-3 : tie.Need-returns-3
+returns-3 c = simp (c .enum-told .given .1)
+
+returns-4 : tie.Need-returns-4
+returns-4 c = simp (c .enum-told2 .given .1)
+
 pub sent-numbers-spec : {M : Type 1} → statement M
 sent-numbers-spec =
     tie.close
@@ -16,10 +22,8 @@ sent-numbers-spec =
     (λ c. search needs)
     (λ c. search needs)
     (λ c. search needs)
-    (λ c κs. search needs)
     (λ c. search needs)
-    (λ c κs. search needs)
     returns
     returns-2
-    (λ c. search needs)
-    (λ c. search needs))
+    returns-3
+    returns-4)

@@ -1,9 +1,9 @@
--- `numbers::cycle::device_of` meets its contract.
-use Rattle.numbers.specs.Cycle.{deviceOf}
+-- `bus::cycle::device_of` meets its contract.
+use Rattle.bus.specs.Cycle.{deviceOf}
 use Rattle.parts.proofs.Rules.{tests}
 use borrow.Author.Needs.{needs}
-use Rattle.numbers.proofs.cycle.device_of.Statement.{statement}
-use Rattle.numbers.proofs.cycle.device_of.Tie as tie
+use Rattle.bus.proofs.cycle.device_of.Statement.{statement}
+use Rattle.bus.proofs.cycle.device_of.Tie as tie
 
 returns : tie.Need-returns
 unfolding deviceOf

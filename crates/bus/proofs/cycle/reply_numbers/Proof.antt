@@ -1,9 +1,9 @@
--- `numbers::cycle::reply_numbers` meets its contract.
-use Rattle.numbers.specs.Cycle.{replyNumbers}
+-- `bus::cycle::reply_numbers` meets its contract.
+use Rattle.bus.specs.Cycle.{replyNumbers}
 use Rattle.parts.proofs.Rules.{tests}
 use borrow.Author.Needs.{needs}
-use Rattle.numbers.proofs.cycle.reply_numbers.Statement.{statement}
-use Rattle.numbers.proofs.cycle.reply_numbers.Tie as tie
+use Rattle.bus.proofs.cycle.reply_numbers.Statement.{statement}
+use Rattle.bus.proofs.cycle.reply_numbers.Tie as tie
 
 returns-2 : tie.Need-returns-2
 unfolding replyNumbers

@@ -1,7 +1,7 @@
--- `numbers::cycle::device_numbers` meets its contract.
+-- `bus::cycle::device_numbers` meets its contract.
 use borrow.Author.Needs.{needs}
-use Rattle.numbers.proofs.cycle.device_numbers.Statement.{statement}
-use Rattle.numbers.proofs.cycle.device_numbers.Tie as tie
+use Rattle.bus.proofs.cycle.device_numbers.Statement.{statement}
+use Rattle.bus.proofs.cycle.device_numbers.Tie as tie
 
 returns : tie.Need-returns
 returns c = simp (c .before .mode-number .ensures, c .bit-number .ensures)

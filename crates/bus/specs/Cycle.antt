@@ -11,25 +11,37 @@ use Rattle.chip.specs.declared.cycle.Action.{Action}
 use Rattle.chip.specs.declared.cycle.Reply.{Reply}
 use Rattle.chip.specs.Device.{operation, core, device, freshCore}
 use Rattle.chip.specs.Cycle.{Outcome, cycle, cycleOf}
-use Rattle.numbers.specs.declared.cycle.DeviceNumbers.{DeviceNumbers}
-use Rattle.numbers.specs.declared.cycle.ReplyNumbers.{ReplyNumbers}
+use Rattle.bus.specs.declared.cycle.DeviceNumbers.{DeviceNumbers}
+use Rattle.bus.specs.declared.cycle.ReplyNumbers.{ReplyNumbers}
 
 -- WP# is high at any level but 0
 abbrev pub high : ℕ → Bool
 high wp = ltb 0 wp
 
--- ---- the device
+-- ---- the modes by number. Capitals as in the source, its `_` as `-`
+-- the cells are read
+abbrev pub READ-MODE : ℕ
+READ-MODE = 0
+
+-- the codes are read
+abbrev pub IDENTIFICATION : ℕ
+IDENTIFICATION = 1
+
+-- the number of a mode
 abbrev pub modeNumber : Mode → ℕ
-modeNumber ReadMode = 0
-modeNumber Identification = 1
+modeNumber ReadMode = READ-MODE
+modeNumber Identification = IDENTIFICATION
 
+-- the mode of a number: identification for any but the first
 abbrev pub modeAt : ℕ → Mode
-modeAt n = pick (eqb n 0) ReadMode Identification
+modeAt n = pick (eqb n READ-MODE) ReadMode Identification
 
+-- ---- the device
 -- what a bit shows, or a level
 abbrev pub bitNumber : Bool → ℕ
 bitNumber t = pick t 1 0
 
+-- the numbers of a device
 abbrev pub deviceNumbers : Device → DeviceNumbers
 deviceNumbers d =
     record {
@@ -42,14 +54,18 @@ deviceNumbers d =
       toggle = bitNumber (d .core .running .toggle);
     }
 
--- a device out of range for every part: a stage past the seven
-abbrev pub noState : Device
-noState = device freshCore 7
+-- a stage past the seven of a write sequence
+abbrev pub NO-STAGE : ℕ
+NO-STAGE = 7
 
--- a mode or a toggle above 1 is no state
+-- a device out of range for every part
+abbrev pub noState : Device
+noState = device freshCore NO-STAGE
+
+-- a mode past the last or a toggle above 1 is no state
 unfoldable pub deviceOf : DeviceNumbers → Device
 deviceOf n =
-    noState when ltb 1 (n .mode)
+    noState when ltb IDENTIFICATION (n .mode)
     else noState when ltb 1 (n .toggle)
     else device (core (modeAt (n .mode)) (operation (n .kind) (n .address) (n .«data») (n .left) (eqb (n .toggle) 1))) (n .stage)
 

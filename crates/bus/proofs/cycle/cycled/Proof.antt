@@ -1,8 +1,8 @@
--- `numbers::cycle::cycled` meets its contract.
+-- `bus::cycle::cycled` meets its contract.
 use mathlib.Core.Path.{refl}
 use borrow.Author.Needs.{needs}
-use Rattle.numbers.proofs.cycle.cycled.Statement.{statement}
-use Rattle.numbers.proofs.cycle.cycled.Tie as tie
+use Rattle.bus.proofs.cycle.cycled.Statement.{statement}
+use Rattle.bus.proofs.cycle.cycled.Tie as tie
 
 returns : tie.Need-returns
 returns c =

@@ -1,9 +1,9 @@
--- `numbers::cycle::no_state` meets its contract.
+-- `bus::cycle::no_state` meets its contract.
 use Rattle.chip.specs.declared.device.Device.{Device}
 use mathlib.Core.Path.{ap}
 use borrow.Author.Needs.{needs}
-use Rattle.numbers.proofs.cycle.no_state.Statement.{statement}
-use Rattle.numbers.proofs.cycle.no_state.Tie as tie
+use Rattle.bus.proofs.cycle.no_state.Statement.{statement}
+use Rattle.bus.proofs.cycle.no_state.Tie as tie
 
 returns : tie.Need-returns
 returns c = simp (ap (λ (d : Device). d .core) (c .before .fresh .ensures))

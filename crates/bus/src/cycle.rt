@@ -7,7 +7,7 @@ use chip::Operation;
 use chip::Reply;
 use commands::Mode;
 ghost use mathlib.Core.Path.{_≡_};
-ghost use Rattle.numbers.specs.Cycle.{cycledOf, deviceNumbers, deviceOf, modeAt, modeNumber, noState, replyNumbers, bitNumber};
+ghost use Rattle.bus.specs.Cycle.{cycledOf, deviceNumbers, deviceOf, modeAt, modeNumber, noState, replyNumbers, bitNumber};
 
 // ---- the numbers of the modes
 const READ_MODE: u32 = 0;
@@ -58,7 +58,7 @@ fn mode_at(n: u32) -> Mode
 }
 
 // The number of what a bit shows, or of a level.
-pub(crate) fn bit_number(bit: bool) -> u32
+fn bit_number(bit: bool) -> u32
     ensures { λ r. ⌜ r ≡ bitNumber bit ⌝ }
 {
     if bit {

@@ -1,0 +1,92 @@
+-- A device crosses to C and back: its numbers are read as that device, and a refused cycle hands back the numbers as they came.
+use Prim.Native.Nat.{ℕ, zero, suc, _<_, _≤_}
+use mathlib.Core.Path.{_≡_, refl}
+use mathlib.Core.Bool.{Bool, true, false}
+use mathlib.Core.List.{List}
+use native.Mathlib.Omega.{arith}
+use lib.Dec.{eqb}
+use lib.ListN.{length}
+use borrow.Author.Tests.{eq-eqb, ne-eqb, eqb-false, lt-ltb, le-ltb}
+use Rattle.parts.specs.Names.{WRONG-CELLS, BAD-STATE}
+use Rattle.parts.specs.Pick.{_unless_, _else_, _orElse_}
+use Rattle.parts.specs.Table.{rowOf, partRefusal}
+use Rattle.commands.specs.declared.effect.Mode.{Mode}
+use Rattle.commands.specs.declared.effect.Mode.the-variants.{ReadMode, Identification}
+use Rattle.chip.specs.declared.device.Device.{Device}
+use Rattle.chip.specs.declared.cycle.Action.{Action}
+use Rattle.chip.specs.declared.cycle.Cycle.{Cycle}
+use Rattle.chip.specs.Device.{operation, core, device, stageInRange, deviceInRange}
+use Rattle.chip.specs.Cycle.{chip, afterTime, acceptedOf, cycleOf, cycleRefusal}
+use Rattle.chip.proofs.Cases.{acted-answers}
+use Rattle.bus.specs.declared.cycle.DeviceNumbers.{DeviceNumbers}
+use Rattle.bus.specs.Cycle.{high, bitNumber, deviceNumbers, deviceOf, noState, replyNumbers, cycledNumbers}
+
+-- ---- a level: its number is read as that level
+pub level-back : (b : Bool) → high (bitNumber b) ≡ b
+level-back true = refl
+level-back false = refl
+
+-- ---- the device
+device-mode : (m : Mode) (k a x l : ℕ) (t : Bool) (s : ℕ)
+    → deviceOf (deviceNumbers (device (core m (operation k a x l t)) s)) ≡ device (core m (operation k a x l t)) s
+unfolding deviceOf
+device-mode ReadMode k a x l true s = refl
+device-mode ReadMode k a x l false s = refl
+device-mode Identification k a x l true s = refl
+device-mode Identification k a x l false s = refl
+
+-- the numbers of a device are read as that device
+pub device-back : (d : Device) → deviceOf (deviceNumbers d) ≡ d
+device-back d =
+    let o = d .core .running in
+    device-mode (d .core .mode) (o .kind) (o .address) (o .«data») (o .left) (o .toggle) (d .stage)
+
+-- a mode or a toggle above 1 is no state
+pub bad-mode : (n : DeviceNumbers) → 1 < n .mode → deviceOf n ≡ noState
+unfolding deviceOf
+bad-mode n h = simp (lt-ltb _ _ h)
+
+pub bad-toggle : (n : DeviceNumbers) → n .mode ≤ 1 → 1 < n .toggle → deviceOf n ≡ noState
+unfolding deviceOf
+bad-toggle n m h = simp (le-ltb _ _ m, lt-ltb _ _ h)
+
+-- numbers that are no state: 1 and 2 come first, then 5
+pub no-device : (part lent : ℕ) (n : DeviceNumbers) (a : Action) → deviceOf n ≡ noState
+    → cycleRefusal part lent (deviceOf n) a ≡ (partRefusal part orElse WRONG-CELLS unless eqb lent (rowOf part .cells) else BAD-STATE)
+unfolding cycleRefusal deviceInRange stageInRange
+no-device part lent n a h = simp h
+
+-- ---- a cycle
+positive : (n : ℕ) → (n ≡ 0 → ⊥) → 0 < n
+positive zero h = absurd (h refl)
+positive (suc n) h = omega arith
+
+-- a cycle on the numbers of a device: the numbers of its reply
+pub cycle-of-device : (part : ℕ) (cells : List ℕ) (d : Device) (c : Cycle) → let r = cycleOf part cells d c .reply in
+    replyNumbers (deviceNumbers d) r ≡ record { answer = r .answer; value = r .value; device = deviceNumbers (r .device) }
+unfolding replyNumbers cycleOf acceptedOf
+cycle-of-device part cells d c = by (eqb n 0) refl
+  where
+    n : ℕ
+    n = cycleRefusal part (length cells) d (c .action)
+
+    by : (t : Bool) → eqb n 0 ≡ t → let r = cycleOf part cells d c .reply in
+        replyNumbers (deviceNumbers d) r ≡ record { answer = r .answer; value = r .value; device = deviceNumbers (r .device) }
+    by true t = rw (t, acted-answers (rowOf part) (afterTime (rowOf part) (chip cells d) (c .elapsed)) (c .wp) (c .action))
+    by false t = rw (t, lt-ltb 0 n (positive n (eqb-false n 0 t)))
+
+-- on the device that the numbers mean
+module _ (part : ℕ) (cells : List ℕ) (n : DeviceNumbers) (c : Cycle) where
+  -- refused: its number, value 0, the numbers as they came, and no cell changed
+  pub refused-numbers : (k : ℕ) → 0 < k → cycleRefusal part (length cells) (deviceOf n) (c .action) ≡ k
+      → cycledNumbers n (cycleOf part cells (deviceOf n) c) ≡ record { cells = cells; reply = record { answer = k; value = 0; device = n } }
+  unfolding replyNumbers cycleOf
+  refused-numbers k h r = simp (r, ne-eqb k 0 (λ z. omega arith), lt-ltb 0 k h)
+
+  -- not refused: 0, and the numbers of the device that it leaves
+  pub taken-numbers : cycleRefusal part (length cells) (deviceOf n) (c .action) ≡ 0 → let o = acceptedOf (rowOf part) cells (deviceOf n) c in
+      cycledNumbers n (cycleOf part cells (deviceOf n) c)
+      ≡ record { cells = o .cells; reply = record { answer = 0; value = o .reply .value; device = deviceNumbers (o .reply .device) } }
+  unfolding replyNumbers cycleOf acceptedOf
+  taken-numbers z =
+      rw (eq-eqb (cycleRefusal part (length cells) (deviceOf n) (c .action)) 0 z, acted-answers (rowOf part) (afterTime (rowOf part) (chip cells (deviceOf n)) (c .elapsed)) (c .wp) (c .action))

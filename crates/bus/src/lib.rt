@@ -1,0 +1,7 @@
+// The bus cycle on a device as plain numbers: each call takes any numbers.
+mod cycle;
+
+pub use cycle::DeviceNumbers;
+pub use cycle::ReplyNumbers;
+pub use cycle::cycled;
+pub use cycle::device_numbers;
