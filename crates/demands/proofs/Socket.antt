@@ -16,7 +16,7 @@ use Rattle.job.specs.declared.loading.Progress.the-variants.{Waiting}
 use Rattle.job.specs.declared.loading.Loading.{Loading}
 use Rattle.job.specs.declared.loading.Begun.{Begun}
 use Rattle.job.specs.declared.loading.Sending.the-variants.{SendsNothing}
-use Rattle.job.specs.Refusal.{jobRefusal}
+use Rattle.request.specs.Refusal.{jobRefusal}
 use Rattle.job.specs.Bill.{played, reportOf}
 use Rattle.job.specs.Loading.{loading, beginLoad, isEnding, loadingInRange, loadTurn, loadTurned, loadTurnOf}
 use Rattle.job.proofs.Accepts.{not-refused}

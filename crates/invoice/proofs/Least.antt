@@ -34,7 +34,7 @@ use Rattle.chip.proofs.Trace.{trace}
 use Rattle.chip.proofs.Started.{Startable, All, started-all}
 use Rattle.driver.specs.Writes.{lastWrite}
 use Rattle.job.specs.declared.loader.Job.{Job}
-use Rattle.job.specs.Refusal.{fitAll}
+use Rattle.values.specs.Fit.{fitAll}
 use Rattle.job.specs.Run.{world, noneSent, playOf}
 use Rattle.job.specs.Sent.{sentOf}
 use Rattle.job.specs.Formulas.{tallyOf}
