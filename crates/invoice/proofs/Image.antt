@@ -38,8 +38,9 @@ use Rattle.job.specs.Run.{Sent, World, world, noneSent, playOf}
 use Rattle.job.specs.Sent.{operated, scanRead, scans, fills, looks, carries, decidedOn, sectorSent, sectorsSent, sentOf}
 use Rattle.driver.proofs.Talks.{talk-stops, talk-goes}
 use Rattle.job.proofs.Rest.{chipOf}
-use Rattle.job.proofs.AcceptedJob.{AcceptedJob, program-starts, erase-starts, fit-at}
+use Rattle.job.proofs.AcceptedJob.{AcceptedJob, program-starts, erase-starts}
 use Rattle.values.proofs.Clears.{cleared}
+use Rattle.values.proofs.Places.{fit-at}
 use Rattle.job.proofs.Left.{program-leaves, erase-length, erase-drop, erase-at}
 use Rattle.job.proofs.Sectors.{Ready, Read-on, reads-on}
 use Rattle.invoice.specs.Started.{cyclesIn}

@@ -96,14 +96,7 @@ fn request_refusal(row: Row, first: u32, image: &[u16], wp: bool, p: u32) -> u32
 }
 
 // The refusal of a job: 1, 2, 10, 6, 7, 8, 9.
-pub fn job_refusal(
-    part: u32,
-    lent: usize,
-    first: u32,
-    image: &[u16],
-    wp: bool,
-    p: u32,
-) -> u32
+pub fn job_refusal(part: u32, lent: usize, first: u32, image: &[u16], wp: bool, p: u32) -> u32
     ensures { λ r. ⌜ r ≡ jobRefusal part lent first (now (image .entry)) wp p ⌝ }
 {
     let found = table::part_row(part);
