@@ -22,8 +22,9 @@ use Rattle.chip.specs.Sequence.{ignored, writtenOf}
 use Rattle.chip.specs.Cycle.{Chip, chip, Outcome, reply, actionRefusal, cycleRefusal, settledOf, readOf, cutOf, acceptedOf, cycleOf}
 use Rattle.chip.specs.Trace.{leaves, after}
 use Rattle.driver.specs.Writes.{lastWrite}
-use Rattle.job.specs.Total.{totalOf}
-use Rattle.job.specs.Refusal.{fitAll, meets, protectionRefusal, sectorsRefusal, rangeRefusal, jobRefusal}
+use Rattle.values.specs.Total.{totalOf}
+use Rattle.values.specs.Fit.{fitAll}
+use Rattle.request.specs.Refusal.{meets, protectionRefusal, sectorsRefusal, rangeRefusal, jobRefusal}
 use Rattle.driver.specs.Machine.{confirmAfter}
 use Rattle.job.specs.Bill.{jobFrom, fullOf, Loaded}
 use Rattle.invoice.proofs.Listed.{filling, looking}

@@ -11,7 +11,8 @@ use Rattle.chip.specs.Device.{validOperation, coreInRange, stageInRange, device
 use Rattle.chip.specs.Cycle.{actionRefusal, cycleRefusal}
 use Rattle.driver.specs.Refusals.{dataRefusal, targetRefusal, commandRefusal, startRefusal}
 use Rattle.driver.specs.Writes.{writeCount}
-use Rattle.job.specs.Refusal.{fitAll, meets, protectionRefusal, sectorsRefusal, rangeRefusal, jobRefusal}
+use Rattle.values.specs.Fit.{fitAll}
+use Rattle.request.specs.Refusal.{meets, protectionRefusal, sectorsRefusal, rangeRefusal, jobRefusal}
 use Rattle.jobfile.specs.Bytes.{number, field}
 use Rattle.jobfile.specs.JobFile.{wrong, malformed, jobOf, valuesOf}
 use Rattle.demands.specs.Refused.{answeredSo, figures, writes, starts, cycles, jobs, fileBytes, fileAsks, fileValues}

@@ -15,10 +15,10 @@ use Rattle.job.specs.declared.loading.Progress.the-variants.{Waiting}
 use Rattle.job.specs.declared.loading.Loading.{Loading}
 use Rattle.job.specs.declared.loading.Begun.{Begun}
 use Rattle.job.specs.declared.loading.Sending.the-variants.{SendsNothing}
-use Rattle.job.specs.Refusal.{jobRefusal}
+use Rattle.request.specs.Refusal.{jobRefusal}
 use Rattle.job.specs.Bill.{played, reportOf}
 use Rattle.job.specs.Loading.{loading, beginLoad, isEnding, loadingInRange, loadTurn, loadTurned, loadTurnOf}
-use Rattle.job.proofs.Accepts.{not-refused}
+use Rattle.request.proofs.Accepts.{not-refused}
 use Rattle.job.proofs.Rest.{chipOf}
 use Rattle.job.proofs.AsItCame.{none-begun, as-it-came}
 use Rattle.job.proofs.OnBus.{sends-first, leaves-played, loads-list, ends-whatever}

@@ -12,7 +12,8 @@ use Rattle.chip.specs.Cycle.{actionRefusal, cycleRefusal, settledOf, cutOf, acc
 use Rattle.driver.specs.Refusals.{dataRefusal, targetRefusal, startRefusal}
 use Rattle.driver.specs.Writes.{writeCount}
 use Rattle.driver.specs.Machine.{startOf, mostPolls, inRange, afterWrite, writingOf, matches, pollingOf, confirmingOf, stepOf, startWriting}
-use Rattle.job.specs.Refusal.{fitAll, meets, protectionRefusal, sectorsRefusal, rangeRefusal, beginRefusal, standingRefusal}
+use Rattle.values.specs.Fit.{fitAll}
+use Rattle.request.specs.Refusal.{meets, protectionRefusal, sectorsRefusal, rangeRefusal, beginRefusal, standingRefusal}
 use Rattle.job.specs.Loader.{nextSector, lookOf, beginOf, burnOf, drivenOf, scannedOf, inJob, turnOf}
 use Rattle.job.specs.Loading.{beginLoad, isEnding, sameAsked, loaderInRange, loadingInRange, stopsWith, loadTurnOf}
 use Rattle.numbers.specs.Machine.{phaseAt, steppedOf}

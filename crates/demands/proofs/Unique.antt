@@ -1,6 +1,8 @@
 -- Every promise determines its outcome. What is proved stands in specs/Unique.antt; each is proved in the crate that exports the function.
 use Rattle.parts.proofs.Determined as parts
 use Rattle.table.proofs.Determined as table
+use Rattle.values.proofs.Determined as values
+use Rattle.request.proofs.Determined as request
 use Rattle.commands.proofs.Determined as commands
 use Rattle.chip.proofs.Determined as chip
 use Rattle.driver.proofs.Determined as driver
@@ -30,6 +32,13 @@ unique =
       has-command = parts.has-command-unique;
       is-interval = parts.is-interval-unique;
       rounded-up = parts.rounded-up-unique;
+      decision-of = values.decision-of-unique;
+      leading = values.leading-unique;
+      sum = values.sum-unique;
+      all-fit = values.all-fit-unique;
+      job-refusal = request.job-refusal-unique;
+      begin-refusal = request.begin-refusal-unique;
+      standing-refusal = request.standing-refusal-unique;
       effect-of = commands.effect-of-unique;
       fresh = chip.fresh-unique;
       bus-cycle = chip.bus-cycle-unique;

@@ -1,5 +1,6 @@
 -- What each exported function answers where it does not refuse. The bus cycle's is in Demand2, the job's in Demand3; the part's
--- small questions (value, blank, sector and block of an address ..) refuse nothing.
+-- small questions (value, blank, sector and block of an address ..) and those of a slice of values refuse nothing; a job's refusals
+-- are themselves what Demand1 and Socket have the job and its begin answer.
 use Prim.Native.Nat.{ℕ, _-_}
 use mathlib.Core.Path.{_≡_}
 use mathlib.Core.Bool.{true, false}

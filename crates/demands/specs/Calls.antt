@@ -38,7 +38,7 @@ use Rattle.driver.proofs.kth_write.Kinds as kth-kinds
 use Rattle.driver.proofs.kth_write.Reads as kth-reads
 use Rattle.job.specs.declared.loading.Progress.the-variants.{Waiting}
 use Rattle.job.specs.declared.loading.Loading.{Loading}
-use Rattle.job.specs.Refusal.{jobRefusal, beginRefusal}
+use Rattle.request.specs.Refusal.{jobRefusal, beginRefusal}
 use Rattle.job.specs.Bill.{Loaded, Reported}
 use Rattle.job.specs.Loading.{loading, LoadTurned, loadTurned}
 use Rattle.job.proofs.load.Kinds as load-kinds

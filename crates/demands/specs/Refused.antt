@@ -15,7 +15,7 @@ use Rattle.chip.specs.Device.{operation, core, device, freshDevice}
 use Rattle.chip.specs.Cycle.{cycleRefusal}
 use Rattle.driver.specs.Refusals.{commandRefusal, startRefusal}
 use Rattle.driver.specs.Writes.{kthRefusal}
-use Rattle.job.specs.Refusal.{jobRefusal}
+use Rattle.request.specs.Refusal.{jobRefusal}
 use Rattle.jobfile.specs.declared.trailer.JobFile.{JobFile}
 use Rattle.jobfile.specs.JobFile.{asks}
 

@@ -17,6 +17,20 @@ use Rattle.table.proofs.part_row.Kinds as part-row-kinds
 use Rattle.table.proofs.part_row.Reads as part-row-reads
 use Rattle.table.proofs.part_figure.Kinds as part-figure-kinds
 use Rattle.table.proofs.part_figure.Reads as part-figure-reads
+use Rattle.values.proofs.decision_of.Kinds as decision-of-kinds
+use Rattle.values.proofs.decision_of.Reads as decision-of-reads
+use Rattle.values.proofs.leading.Kinds as leading-kinds
+use Rattle.values.proofs.leading.Reads as leading-reads
+use Rattle.values.proofs.sum.Kinds as sum-kinds
+use Rattle.values.proofs.sum.Reads as sum-reads
+use Rattle.values.proofs.all_fit.Kinds as all-fit-kinds
+use Rattle.values.proofs.all_fit.Reads as all-fit-reads
+use Rattle.request.proofs.job_refusal.Kinds as job-refusal-kinds
+use Rattle.request.proofs.job_refusal.Reads as job-refusal-reads
+use Rattle.request.proofs.begin_refusal.Kinds as begin-refusal-kinds
+use Rattle.request.proofs.begin_refusal.Reads as begin-refusal-reads
+use Rattle.request.proofs.standing_refusal.Kinds as standing-refusal-kinds
+use Rattle.request.proofs.standing_refusal.Reads as standing-refusal-reads
 use Rattle.parts.proofs.span.Span.holds.Kinds as span-holds-kinds
 use Rattle.parts.proofs.span.Span.holds.Reads as span-holds-reads
 use Rattle.parts.proofs.table.Row.sector_size.Kinds as sector-size-kinds
@@ -148,6 +162,15 @@ pub record Unique : Type 0 where
   pub has-command : OneResult 0 has-command-kinds.ps has-command-kinds.r has-command-reads.Post
   pub is-interval : OneResult 0 is-interval-kinds.ps is-interval-kinds.r is-interval-reads.Post
   pub rounded-up : OneResult 0 rounded-up-kinds.ps rounded-up-kinds.r rounded-up-reads.Post
+  -- what values say
+  pub decision-of : OneResult 2 decision-of-kinds.ps decision-of-kinds.r decision-of-reads.Post
+  pub leading : OneResult 1 leading-kinds.ps leading-kinds.r leading-reads.Post
+  pub sum : OneResult 1 sum-kinds.ps sum-kinds.r sum-reads.Post
+  pub all-fit : OneResult 1 all-fit-kinds.ps all-fit-kinds.r all-fit-reads.Post
+  -- the refusals of a job
+  pub job-refusal : OneResult 1 job-refusal-kinds.ps job-refusal-kinds.r job-refusal-reads.Post
+  pub begin-refusal : OneResult 1 begin-refusal-kinds.ps begin-refusal-kinds.r begin-refusal-reads.Post
+  pub standing-refusal : OneResult 0 standing-refusal-kinds.ps standing-refusal-kinds.r standing-refusal-reads.Post
   -- the table of commands
   pub effect-of : OneResult 0 effect-of-kinds.ps effect-of-kinds.r effect-of-reads.Post
   -- the chip

@@ -9,7 +9,7 @@ use lib.ListN.{length, take, drop, length-drop}
 use lib.Seq.{length-take-le}
 use Rattle.parts.specs.Width.{sectorSize}
 use Rattle.parts.specs.Table.{rowOf}
-use Rattle.job.specs.Refusal.{jobRefusal}
+use Rattle.request.specs.Refusal.{jobRefusal}
 use Rattle.job.specs.Run.{Sent}
 use Rattle.job.specs.Bill.{jobFrom}
 use Rattle.job.specs.Sent.{sentOf}

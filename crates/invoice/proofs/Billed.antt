@@ -21,7 +21,7 @@ use Rattle.driver.specs.Reads.{Scans, Polls, Confirms, Place, placesIn, howMany
 use Rattle.chip.proofs.Idle.{fresh-idle}
 use Rattle.job.specs.declared.loader.Job.{Job}
 use Rattle.job.specs.declared.run.Tally.{Tally}
-use Rattle.job.specs.Refusal.{jobRefusal}
+use Rattle.request.specs.Refusal.{jobRefusal}
 use Rattle.job.specs.Run.{Sent, world, noneSent, playOf}
 use Rattle.job.specs.Sent.{sentOf}
 use Rattle.job.specs.Bill.{jobFrom, fullOf, played, playedAll, loadOf, reportOf}

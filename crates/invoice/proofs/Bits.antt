@@ -12,13 +12,13 @@ use Rattle.parts.specs.Pick.{pick}
 use Rattle.parts.specs.Width.{valueOf, fitsIn}
 use Rattle.parts.proofs.Values.{value-same, value-and, fits-lt}
 use Rattle.parts.proofs.Every.{both}
-use Rattle.job.specs.declared.search.Rise.{Rise}
-use Rattle.job.specs.declared.search.Rise.the-variants.{At, Nowhere}
-use Rattle.job.specs.declared.search.Decision.{Decision}
-use Rattle.job.specs.declared.search.Decision.the-variants.{NoErase, SectorErase}
-use Rattle.job.specs.Search.{riseIn, firstFound, riseFrom, decides, decisionOf}
-use Rattle.job.specs.Refusal.{fitAll}
-use Rattle.job.proofs.Clears.{clears}
+use Rattle.values.specs.declared.search.Rise.{Rise}
+use Rattle.values.specs.declared.search.Rise.the-variants.{At, Nowhere}
+use Rattle.values.specs.declared.search.Decision.{Decision}
+use Rattle.values.specs.declared.search.Decision.the-variants.{NoErase, SectorErase}
+use Rattle.values.specs.Search.{riseIn, firstFound, riseFrom, decides, decisionOf}
+use Rattle.values.specs.Fit.{fitAll}
+use Rattle.values.proofs.Clears.{clears}
 use Rattle.least.specs.LeastTime.{rises, rising}
 
 -- a decision by a test

@@ -31,15 +31,16 @@ use Rattle.driver.specs.Machine.{addressOf, confirmAfter, valueWanted, startOf,
 use Rattle.driver.specs.Talk.{talk, writeCycles, operationOf, completed, shownAfter, shows}
 use Rattle.driver.proofs.Theorems.{succeeds, program-shows, erase-shows}
 use Rattle.job.specs.declared.loader.Job.{Job}
-use Rattle.job.specs.declared.search.Decision.{Decision}
-use Rattle.job.specs.declared.search.Decision.the-variants.{NoErase, SectorErase}
-use Rattle.job.specs.Search.{decisionOf}
+use Rattle.values.specs.declared.search.Decision.{Decision}
+use Rattle.values.specs.declared.search.Decision.the-variants.{NoErase, SectorErase}
+use Rattle.values.specs.Search.{decisionOf}
 use Rattle.job.specs.Run.{Sent, World, world, noneSent, playOf}
 use Rattle.job.specs.Sent.{operated, scanRead, scans, fills, looks, carries, decidedOn, sectorSent, sectorsSent, sentOf}
 use Rattle.driver.proofs.Talks.{talk-stops, talk-goes}
 use Rattle.job.proofs.Rest.{chipOf}
-use Rattle.job.proofs.AcceptedJob.{AcceptedJob, program-starts, erase-starts, fit-at}
-use Rattle.job.proofs.Clears.{cleared}
+use Rattle.job.proofs.AcceptedJob.{AcceptedJob, program-starts, erase-starts}
+use Rattle.values.proofs.Clears.{cleared}
+use Rattle.values.proofs.Places.{fit-at}
 use Rattle.job.proofs.Left.{program-leaves, erase-length, erase-drop, erase-at}
 use Rattle.job.proofs.Sectors.{Ready, Read-on, reads-on}
 use Rattle.invoice.specs.Started.{cyclesIn}

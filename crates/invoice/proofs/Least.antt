@@ -34,11 +34,12 @@ use Rattle.chip.proofs.Trace.{trace}
 use Rattle.chip.proofs.Started.{Startable, All, started-all}
 use Rattle.driver.specs.Writes.{lastWrite}
 use Rattle.job.specs.declared.loader.Job.{Job}
-use Rattle.job.specs.Refusal.{fitAll}
+use Rattle.values.specs.Fit.{fitAll}
+use Rattle.values.proofs.Places.{fit-at}
 use Rattle.job.specs.Run.{world, noneSent, playOf}
 use Rattle.job.specs.Sent.{sentOf}
 use Rattle.job.specs.Formulas.{tallyOf}
-use Rattle.job.proofs.AcceptedJob.{AcceptedJob, fit-at}
+use Rattle.job.proofs.AcceptedJob.{AcceptedJob}
 use Rattle.least.specs.Operations.{Op, Program, Erase, programmed, blanks, erased, operate, operateAll, Holds, costAll}
 use Rattle.least.specs.LeastTime.{differs, rising}
 use Rattle.least.specs.Job.{programs, sectorOps, sectorsOps, jobOps, afterJob}

@@ -9,8 +9,8 @@ use Rattle.parts.specs.Table.{rowOf}
 use Rattle.chip.specs.declared.device.Operation.{Operation}
 use Rattle.driver.specs.Talk.{operationOf}
 use Rattle.job.specs.declared.loader.Job.{Job}
-use Rattle.job.specs.declared.search.Decision.{Decision}
-use Rattle.job.specs.declared.search.Decision.the-variants.{NoErase, SectorErase}
+use Rattle.values.specs.declared.search.Decision.{Decision}
+use Rattle.values.specs.declared.search.Decision.the-variants.{NoErase, SectorErase}
 use Rattle.job.specs.Sent.{decidedOn}
 
 module _ (j : Job) where

@@ -12,8 +12,9 @@ use Rattle.chip.specs.declared.device.Operation.{Operation}
 use Rattle.chip.specs.Trace.{completeAll}
 use Rattle.job.specs.declared.loader.Job.{Job}
 use Rattle.job.specs.declared.run.Tally.{Tally}
-use Rattle.job.specs.Total.{sumOf}
-use Rattle.job.specs.Refusal.{fitAll, jobRefusal}
+use Rattle.values.specs.Total.{sumOf}
+use Rattle.values.specs.Fit.{fitAll}
+use Rattle.request.specs.Refusal.{jobRefusal}
 use Rattle.job.specs.Run.{tally}
 use Rattle.job.specs.Sent.{sentOf}
 use Rattle.job.specs.Formulas.{tallyOf, N}

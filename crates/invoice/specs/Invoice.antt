@@ -15,7 +15,7 @@ use Rattle.chip.specs.Device.{freshDevice, idle}
 use Rattle.chip.specs.Cycle.{chip}
 use Rattle.chip.specs.Trace.{play, startedIn, uncut as uncutAll}
 use Rattle.driver.specs.Reads.{Scans, Polls, Confirms, Place, placesIn, howMany}
-use Rattle.job.specs.Total.{sumOf}
+use Rattle.values.specs.Total.{sumOf}
 use Rattle.job.specs.Sent.{sentOf}
 use Rattle.job.specs.Bill.{jobFrom, playedAll, Loaded, Reported}
 use Rattle.invoice.specs.Started.{cyclesIn, timeIn, lastIn, lastShown, toldLast, many}

@@ -1,20 +1,19 @@
 -- A job that was not refused: what is known of it.
-use Prim.Native.Nat.{ℕ, zero, suc, _+_, _%_, _≤_, _<_}
+use Prim.Native.Nat.{ℕ, _+_, _%_, _≤_, _<_}
 use mathlib.Core.Path.{_≡_, refl}
 use mathlib.Core.Bool.{true, false}
-use mathlib.Core.List.{List, [], _∷_}
-use native.Mathlib.Nat.{not-suc-le-zero, le-of-suc-le-suc}
+use mathlib.Core.List.{List}
 use native.Mathlib.Omega.{arith}
 use lib.ListN.{length, getD}
-use Rattle.parts.specs.Width.{fitsIn, sectorSize}
+use Rattle.parts.specs.Width.{sectorSize}
 use Rattle.parts.specs.Table.{rowOf, partRefusal}
 use Rattle.parts.specs.Time.{hasCommand}
-use Rattle.parts.proofs.Every.{both}
 use Rattle.chip.specs.Sequence.{ignored}
 use Rattle.driver.specs.Refusals.{startRefusal}
 use Rattle.driver.proofs.Asked.{beginning}
 use Rattle.job.specs.declared.loader.Job.{Job}
-use Rattle.job.specs.Refusal.{fitAll}
+use Rattle.values.specs.Fit.{fitAll}
+use Rattle.values.proofs.Places.{fit-at}
 
 pub record AcceptedJob (j : Job) (image : List ℕ) : Type 0 where
   pub known : partRefusal (j .part) ≡ 0
@@ -29,13 +28,6 @@ pub record AcceptedJob (j : Job) (image : List ℕ) : Type 0 where
   pub most : j .p ≤ 1000
   -- WP# protects no cell of the range from a program or a sector erase
   pub heeded : (command a : ℕ) → command ≤ 1 → j .first ≤ a → a < j .first + j .count → ignored (rowOf (j .part)) (j .wp) command a ≡ false
-
--- an image value fits
-pub fit-at : (w : ℕ) (xs : List ℕ) → fitAll w xs ≡ true → (i : ℕ) → i < length xs → fitsIn w (getD xs i 0) ≡ true
-unfolding fitAll
-fit-at w [] e i h = absurd (not-suc-le-zero h)
-fit-at w (x ∷ xs) e zero h = both (fitsIn w x) (fitAll w xs) e .0
-fit-at w (x ∷ xs) e (suc i) h = fit-at w xs (both (fitsIn w x) (fitAll w xs) e .1) i (le-of-suc-le-suc h)
 
 -- the driver of a sector erase starts
 pub erase-begins : (part a p : ℕ) → partRefusal part ≡ 0 → a < rowOf part .cells → 0 < p → p ≤ 1000 → startRefusal part 1 a 0 p ≡ 0

@@ -26,16 +26,16 @@ use Rattle.job.specs.declared.loading.Progress.{Progress}
 use Rattle.job.specs.declared.loading.Progress.the-variants.{Waiting, Within, Over}
 use Rattle.job.specs.declared.loading.Loading.{Loading}
 use Rattle.job.specs.declared.loading.Sending.the-variants.{SendsNothing}
-use Rattle.job.specs.declared.search.Decision.{Decision}
-use Rattle.job.specs.declared.search.Decision.the-variants.{NoErase, SectorErase}
-use Rattle.job.specs.Search.{decisionOf}
-use Rattle.job.specs.Refusal.{standingRefusal}
+use Rattle.values.specs.declared.search.Decision.{Decision}
+use Rattle.values.specs.declared.search.Decision.the-variants.{NoErase, SectorErase}
+use Rattle.values.specs.Search.{decisionOf}
+use Rattle.request.specs.Refusal.{standingRefusal}
+use Rattle.request.proofs.Accepts.{Standing, standing}
 use Rattle.job.specs.Loader.{turned, placeOf, readsCell, lookOf, beginOf, carryOut, burnOf, decideOf, drivenOf, seenOf, scannedOf, stageOf, inJob, turnOf}
 use Rattle.job.specs.Loading.{loading, isEnding, loaderInRange, progressInRange, jobIn, loadingInRange}
 use Rattle.job.specs.Loading.{loadTurn, stopsWith, taken, LoadTurned, loadTurned, takes, firstTurn, progressOf, loadTurnOf}
 use Rattle.job.proofs.InJob.{in-sector}
 use Rattle.job.proofs.AcceptedJob.{erase-begins}
-use Rattle.job.proofs.Accepts.{Standing, standing}
 use Rattle.job.proofs.InRange.{out-of-range}
 
 -- the state that a refused begin hands back is refused with 5, whatever image it is given

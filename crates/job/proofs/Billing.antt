@@ -22,8 +22,8 @@ use Rattle.job.specs.declared.run.RunEnd.{RunEnd}
 use Rattle.job.specs.declared.bill.Bill.{Bill}
 use Rattle.job.specs.declared.bill.Report.{Report}
 use Rattle.job.specs.Fits.{JobFits}
-use Rattle.job.specs.Total.{sumOf}
-use Rattle.job.specs.Refusal.{jobRefusal}
+use Rattle.values.specs.Total.{sumOf}
+use Rattle.request.specs.Refusal.{jobRefusal}
 use Rattle.job.specs.Run.{World, world, noneSent, playOf, runFrom, stopFrom, runEnd}
 use Rattle.job.specs.Sent.{sentOf}
 use Rattle.job.specs.Formulas.{N, operationTime}
@@ -59,9 +59,6 @@ pub few-most : (k : ℕ) → firstFew k ≤ 2147483648
 few-most k = split (λ (n : ℕ). n ≤ 2147483648) (ltb 2147483648 k) 2147483648 k (λ _. le-refl 2147483648) (λ l. ltb-false 2147483648 k l)
 
 -- ---- a job that is not refused
-pub none-given : {n m : ℕ} → n ≡ m → n ≤ 0 → m ≡ 0
-none-given e l = omega arith
-
 module _ (part first : ℕ) (image cells : List ℕ) (wp : Bool) (p : ℕ) (z : jobRefusal part (length cells) first image wp p ≡ 0) where
   abbrev j : Job
   j = jobFrom part first (length image) wp p

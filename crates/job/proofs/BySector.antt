@@ -13,8 +13,8 @@ use Rattle.parts.specs.Pick.{pick}
 use Rattle.parts.specs.Width.{valueOf, blankOf, sectorSize}
 use Rattle.parts.specs.Table.{rowOf}
 use Rattle.job.specs.declared.loader.Job.{Job}
-use Rattle.job.specs.declared.search.Decision.{Decision}
-use Rattle.job.specs.declared.search.Decision.the-variants.{NoErase, SectorErase}
+use Rattle.values.specs.declared.search.Decision.{Decision}
+use Rattle.values.specs.declared.search.Decision.the-variants.{NoErase, SectorErase}
 use Rattle.job.specs.Bill.{jobFrom}
 use Rattle.job.specs.Run.{Sent}
 use Rattle.job.specs.Sent.{operated, scanRead, scans, fills, looks, carries, decidedOn, sectorSent, sectorsSent, sentOf}

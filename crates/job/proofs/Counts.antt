@@ -24,8 +24,8 @@ use Rattle.job.specs.declared.loader.Job.{Job}
 use Rattle.job.specs.declared.loader.Purpose.{Purpose}
 use Rattle.job.specs.declared.loader.Purpose.the-variants.{Scan, Lead, Begin, Poll, Confirm}
 use Rattle.job.specs.declared.run.Tally.{Tally}
-use Rattle.job.specs.declared.search.Decision.{Decision}
-use Rattle.job.specs.declared.search.Decision.the-variants.{NoErase, SectorErase}
+use Rattle.values.specs.declared.search.Decision.{Decision}
+use Rattle.values.specs.declared.search.Decision.the-variants.{NoErase, SectorErase}
 use Rattle.job.specs.Run.{Sent, World, sent, tally, countedOf, begunOf, sendOf, playOf}
 use Rattle.job.specs.Sent.{operated, scanRead, scans, fills, looks, sectorSent, sectorsSent, sentOf, carries, decidedOn}
 use Rattle.job.specs.Formulas.{plus, noTally, tallyOf, N, operationTime, FollowsFormulas}

@@ -34,9 +34,9 @@ use Rattle.job.specs.declared.loader.Task.the-variants.{Erasing, Filling
 use Rattle.job.specs.declared.loader.Loader.{Loader}
 use Rattle.job.specs.declared.loader.Turn.{Turn}
 use Rattle.job.specs.declared.loader.Turn.the-variants.{Play, Stop}
-use Rattle.job.specs.declared.search.Decision.{Decision}
-use Rattle.job.specs.declared.search.Decision.the-variants.{NoErase, SectorErase}
-use Rattle.job.specs.Search.{decisionOf}
+use Rattle.values.specs.declared.search.Decision.{Decision}
+use Rattle.values.specs.declared.search.Decision.the-variants.{NoErase, SectorErase}
+use Rattle.values.specs.Search.{decisionOf}
 use Rattle.job.specs.Loader.{loader, placeOf, readsCell, nextSector, lookOf, goesOn, firstStep, beginOf, nextMark, fillOf, burnOf, carryOut, decideOf, afterwards, drivenOf, seenOf}
 use Rattle.job.specs.Loader.{scannedOf, stageOf, turnOf}
 use Rattle.job.specs.Socket.{Allowed, reads, programs, erases}

@@ -18,10 +18,11 @@ use Rattle.job.specs.declared.loading.Progress.{Progress}
 use Rattle.job.specs.declared.loading.Loading.{Loading}
 use Rattle.job.specs.declared.loading.Sending.the-variants.{SendsNothing}
 use Rattle.job.specs.Fits.{JobFits}
-use Rattle.job.specs.Refusal.{beginRefusal, standingOn, standingRefusal}
+use Rattle.request.specs.Refusal.{beginRefusal, standingOn, standingRefusal}
+use Rattle.request.proofs.Accepts.{standing, none-stands}
 use Rattle.job.specs.Bill.{jobOn, jobFrom}
 use Rattle.job.specs.Loading.{sameAsked, progressInRange, jobIn, loadingInRange, loadTurn, loadTurned, progressOf, loadTurnOf, jobTurn}
-use Rattle.job.proofs.Accepts.{standing, none-stands, sector-most}
+use Rattle.job.proofs.Accepts.{sector-most}
 
 -- an image that a begin takes is a part's at most
 pub begun-few : (part first : ℕ) (image : List ℕ) (wp : Bool) (p : ℕ) → beginRefusal part first image wp p ≡ 0 → length image ≤ 4194304

@@ -1,4 +1,4 @@
-pub mod Turns
+pub mod Marks
 pub mod InJob
 pub mod InRange
 pub mod AsItCame
@@ -8,7 +8,6 @@ pub mod Rest
 pub mod Operates
 pub mod AcceptedJob
 pub mod Left
-pub mod Clears
 pub mod Sectors
 pub mod Accepts
 pub mod Runs

@@ -25,7 +25,8 @@ use Rattle.job.specs.declared.loading.Progress.{Progress}
 use Rattle.job.specs.declared.loading.Progress.the-variants.{Waiting, Within, Over}
 use Rattle.job.specs.declared.loading.Loading.{Loading}
 use Rattle.job.specs.declared.loading.Sending.the-variants.{SendsNothing}
-use Rattle.job.specs.Refusal.{beginRefusal}
+use Rattle.request.specs.Refusal.{beginRefusal}
+use Rattle.request.proofs.Accepts.{none-stands, not-refused}
 use Rattle.job.specs.Loader.{Turned, turned, nextSector, turnOf}
 use Rattle.job.specs.Run.{Sent, sent, World, world, noneSent, sendOf, playOf, runOf}
 use Rattle.job.specs.Sent.{sentOf}
@@ -33,7 +34,7 @@ use Rattle.job.specs.Bill.{jobFrom, played, loadOf}
 use Rattle.job.specs.Loading.{loading, beginLoad, isEnding, progressInRange, loadTurn, stopsWith, taken, LoadTurned, loadTurned, takes, progressOf, loadTurnOf}
 use Rattle.job.specs.Socket.{LoadTold, loadTold, toldAfter, loadTalk, LoadHeard, loadHeardOf, heardAfter, loadHeard, HasLoaded, operationMost, cyclesMost, AllAllowed, HasEnded}
 use Rattle.job.proofs.AcceptedJob.{AcceptedJob}
-use Rattle.job.proofs.Accepts.{none-stands, accepted-job, not-refused, sector-most}
+use Rattle.job.proofs.Accepts.{accepted-job, sector-most}
 use Rattle.job.proofs.InRange.{turns-job, goes-by}
 use Rattle.job.proofs.Falls.{operationLeft, sectorLeft, sectorsLeft, loaderLeft, InOrder, Fine, next-fine, turn-fine}
 use Rattle.job.proofs.Rest.{chipOf, passOf, Rest}

@@ -30,16 +30,17 @@ use Rattle.job.specs.declared.loader.Stage.the-variants.{Scanning, Looki
 use Rattle.job.specs.declared.loader.Task.{Task}
 use Rattle.job.specs.declared.loader.Task.the-variants.{Erasing, Filling, Burning}
 use Rattle.job.specs.declared.loader.Purpose.the-variants.{Scan}
-use Rattle.job.specs.declared.search.Decision.{Decision}
-use Rattle.job.specs.declared.search.Decision.the-variants.{NoErase, SectorErase}
-use Rattle.job.specs.Search.{leadingOf}
+use Rattle.values.specs.declared.search.Decision.{Decision}
+use Rattle.values.specs.declared.search.Decision.the-variants.{NoErase, SectorErase}
+use Rattle.values.specs.Search.{leadingOf}
 use Rattle.job.specs.Loader.{turned, loader, placeOf, readsCell, nextSector, lookOf, beginOf, nextMark, fillOf, burnOf, scannedOf, carryOut, decideOf, afterwards, turnOf}
 use Rattle.job.specs.Run.{Sent, World, sendOf}
 use Rattle.job.specs.Sent.{operated, scanRead, scans, fills, looks, carries, decidedOn, sectorSent, sectorsSent}
 use Rattle.job.proofs.InJob.{sector-in}
-use Rattle.job.proofs.AcceptedJob.{AcceptedJob, program-starts, erase-starts, fit-at}
-use Rattle.job.proofs.Turns.{part-length}
-use Rattle.job.proofs.Clears.{cleared}
+use Rattle.job.proofs.AcceptedJob.{AcceptedJob, program-starts, erase-starts}
+use Rattle.job.proofs.Marks.{part-length}
+use Rattle.values.proofs.Clears.{cleared}
+use Rattle.values.proofs.Places.{fit-at}
 use Rattle.job.proofs.Left.{program-leaves, erase-length, erase-drop, erase-at}
 use Rattle.job.proofs.Operates.{operates}
 use Rattle.job.proofs.Rest.{Rest, rest-none, rest-is, rest-more}

@@ -20,11 +20,11 @@ use Rattle.driver.specs.Machine.{confirmAfter}
 use Rattle.job.specs.declared.loader.Job.{Job}
 use Rattle.job.specs.declared.loader.Purpose.{Purpose}
 use Rattle.job.specs.declared.loader.Purpose.the-variants.{Scan, Lead, Begin, Poll, Confirm}
-use Rattle.job.specs.declared.search.Decision.{Decision}
-use Rattle.job.specs.declared.search.Decision.the-variants.{NoErase, SectorErase}
-use Rattle.job.specs.Refusal.{jobRefusal}
+use Rattle.values.specs.declared.search.Decision.{Decision}
+use Rattle.values.specs.declared.search.Decision.the-variants.{NoErase, SectorErase}
+use Rattle.request.specs.Refusal.{jobRefusal}
 use Rattle.job.specs.Run.{Sent, sent}
-use Rattle.job.specs.Total.{totalOf}
+use Rattle.values.specs.Total.{totalOf}
 use Rattle.job.specs.Sent.{writesSent, operated, scans, fills, looks, carries, decidedOn, sectorSent, sectorsSent, sentOf}
 use Rattle.job.specs.Bill.{fullOf, refusedBill, loadOf}
 

@@ -15,8 +15,8 @@ use Rattle.job.specs.declared.run.Tally.{Tally}
 use Rattle.job.specs.declared.run.Held.{Held}
 use Rattle.job.specs.declared.bill.Bill.{Bill}
 use Rattle.job.specs.declared.bill.Report.{Report}
-use Rattle.job.specs.Total.{sumOf}
-use Rattle.job.specs.Refusal.{jobRefusal}
+use Rattle.values.specs.Total.{sumOf}
+use Rattle.request.specs.Refusal.{jobRefusal}
 use Rattle.job.specs.Run.{World, world, noLast, noneSent, playOf}
 use Rattle.job.specs.Sent.{sentOf}
 use Rattle.job.specs.Formulas.{operationTime}

@@ -1,6 +1,3 @@
-pub mod Search
-pub mod Total
-pub mod Refusal
 pub mod Loader
 pub mod Fits
 pub mod Run

@@ -26,9 +26,9 @@ use Rattle.job.specs.declared.loader.Purpose.{Purpose}
 use Rattle.job.specs.declared.loader.Purpose.the-variants.{Scan, Lead, Begin, Poll, Confirm}
 use Rattle.job.specs.declared.loader.Turn.{Turn}
 use Rattle.job.specs.declared.loader.Turn.the-variants.{Play, Stop}
-use Rattle.job.specs.declared.search.Decision.{Decision}
-use Rattle.job.specs.declared.search.Decision.the-variants.{NoErase, SectorErase}
-use Rattle.job.specs.Search.{decisionOf, leadingOf}
+use Rattle.values.specs.declared.search.Decision.{Decision}
+use Rattle.values.specs.declared.search.Decision.the-variants.{NoErase, SectorErase}
+use Rattle.values.specs.Search.{decisionOf, leadingOf}
 
 abbrev pub loader : Stage → ℕ → ℕ → Loader
 loader s base at = record { stage = s; base = base; at = at }

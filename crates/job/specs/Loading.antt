@@ -24,7 +24,7 @@ use Rattle.job.specs.declared.loading.Begun.{Begun}
 use Rattle.job.specs.declared.loading.Sending.{Sending}
 use Rattle.job.specs.declared.loading.Sending.the-variants.{SendsNothing, Sends}
 use Rattle.job.specs.declared.loading.LoadTurn.{LoadTurn}
-use Rattle.job.specs.Refusal.{beginRefusal, standingRefusal}
+use Rattle.request.specs.Refusal.{beginRefusal, standingRefusal}
 use Rattle.job.specs.Loader.{Turned, placeOf, nextSector, inJob, turnOf}
 use Rattle.job.specs.Bill.{jobFrom}
 

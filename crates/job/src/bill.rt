@@ -1,12 +1,10 @@
 // The job, the second call, and the bill.
 use crate::loader::Job;
-use crate::refusal::job_refusal;
 use crate::run::Last;
 use crate::run::RunEnd;
 use crate::run::Tally;
 use crate::run::no_last;
 use crate::run::run;
-use crate::total::sum;
 use parts::Row;
 use parts::names::PROGRAM;
 use parts::names::SECTOR;
@@ -194,7 +192,7 @@ pub fn load_first(
 ) -> Report
     ensures { λ r. ⌜ (r ≡ reportOf part (now (cells .entry)) first (now (image .entry)) wp p k .report) × (now (cells .exit) ≡ reportOf part (now (cells .entry)) first (now (image .entry)) wp p k .cells) ⌝ }
 {
-    let answer = job_refusal(part, cells.len(), first, image, wp, p);
+    let answer = request::job_refusal(part, cells.len(), first, image, wp, p);
     if 0 < answer {
         return refused_report(answer);
     }
@@ -206,7 +204,7 @@ pub fn load_first(
 pub fn load(part: u32, cells: &mut [u16], first: u32, image: &[u16], wp: bool, p: u32) -> Bill
     ensures { λ r. ⌜ (r ≡ loadOf part (now (cells .entry)) first (now (image .entry)) wp p .bill) × (now (cells .exit) ≡ loadOf part (now (cells .entry)) first (now (image .entry)) wp p .cells) ⌝ }
 {
-    let answer = job_refusal(part, cells.len(), first, image, wp, p);
+    let answer = request::job_refusal(part, cells.len(), first, image, wp, p);
     if 0 < answer {
         return refused_bill(answer);
     }
@@ -214,7 +212,7 @@ pub fn load(part: u32, cells: &mut [u16], first: u32, image: &[u16], wp: bool, p
     let ended = run(&mut *cells, job, image, 2147483648);
     let from = first as usize;
     let end = from + image.len();
-    let total = sum(&cells[from..end], job.row.width);
+    let total = values::sum(&cells[from..end], job.row.width);
     let held = ended.held;
     let tally = held.tally;
     write_bill(job, tally, total, ended.answer)

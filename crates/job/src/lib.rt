@@ -2,10 +2,7 @@
 mod bill;
 mod loader;
 mod loading;
-mod refusal;
 mod run;
-mod search;
-mod total;
 
 pub use bill::Bill;
 pub use bill::Report;
@@ -26,5 +23,3 @@ pub use loading::begin_load;
 pub use run::Held;
 pub use run::Last;
 pub use run::Tally;
-pub use search::Decision;
-pub use search::Rise;

@@ -1,7 +1,4 @@
 // The loader: a machine by value over replies. It never sees the cells: what it decides, it decides from what was read.
-use crate::search::Decision;
-use crate::search::decision_of;
-use crate::search::leading;
 use chip::Action;
 use chip::Cycle;
 use driver::Driver;
@@ -11,6 +8,7 @@ use driver::Step;
 use parts::Row;
 use parts::names::PROGRAM;
 use parts::names::SECTOR;
+use values::Decision;
 ghost use mathlib.Core.Path.{_≡_};
 ghost use Prim.Native.Nat.{_+_, _≤_, _<_};
 ghost use lib.ListN.{length};
@@ -160,7 +158,7 @@ impl Job {
     {
         let from = (base + at) as usize;
         let end = (base + self.size) as usize;
-        let mark = at as usize + leading(&image[from..end], parts::blank(self.row.width));
+        let mark = at as usize + values::leading(&image[from..end], parts::blank(self.row.width));
         if mark < self.size as usize {
             let data = image[base as usize + mark];
             return self.begin(Task::Filling, base, mark as u32, PROGRAM, data);
@@ -204,7 +202,7 @@ impl Job {
         let size = self.size as usize;
         let from = base as usize;
         let end = from + size;
-        let decision = decision_of(&seen[..size], &image[from..end], self.row.width);
+        let decision = values::decision_of(&seen[..size], &image[from..end], self.row.width);
         self.carry_out(decision, base)
     }
 

@@ -6,8 +6,6 @@ use crate::loader::Purpose;
 use crate::loader::Stage;
 use crate::loader::Task;
 use crate::loader::Turn;
-use crate::refusal::begin_refusal;
-use crate::refusal::standing_refusal;
 use chip::Cycle;
 use driver::Driver;
 use driver::Phase;
@@ -18,7 +16,7 @@ use parts::names::PROGRAM;
 use parts::names::SECTOR;
 ghost use mathlib.Core.Path.{_≡_};
 ghost use Prim.Native.Nat.{_+_, _≤_, _<_};
-ghost use lib.ListN.{getD, length};
+ghost use lib.ListN.{length};
 ghost use Rattle.job.specs.Fits.{JobFits};
 ghost use Rattle.job.specs.Loading.{askedFor, beginLoad, isEnding, jobTurn, loaderInRange, loadTurn, loadTurnOf, loading, movedTo, newDriver, progressInRange, sameAsked, stopsWith, taken};
 
@@ -76,7 +74,7 @@ fn waiting(part: u32, first: u32, count: u32, wp: bool, p: u32) -> Loading
 pub fn begin_load(part: u32, first: u32, image: &[u16], wp: bool, p: u32) -> Begun
     ensures { λ r. ⌜ r ≡ beginLoad part first (now (image .entry)) wp p ⌝ }
 {
-    let answer = begin_refusal(part, first, image, wp, p);
+    let answer = request::begin_refusal(part, first, image, wp, p);
     if 0 < answer {
         return Begun {
             answer,
@@ -260,7 +258,7 @@ impl Loading {
         ensures { λ r. ⌜ (r ≡ loadTurnOf self (now (image .entry)) (now (seen .entry)) read .turn) × (now (seen .exit) ≡ loadTurnOf self (now (image .entry)) (now (seen .entry)) read .seen) ⌝ }
     {
         let found = table::part_row(self.part);
-        if 0 < standing_refusal(found, self.first, self.count, self.wp, self.p) {
+        if 0 < request::standing_refusal(found, self.first, self.count, self.wp, self.p) {
             return self.answers(BAD_STATE);
         }
         if self.count as usize != image.len() {

@@ -19,13 +19,13 @@ use Rattle.job.specs.declared.loader.Task.the-variants.{Erasing, Filling, Burni
 use Rattle.job.specs.declared.loader.Loader.{Loader}
 use Rattle.job.specs.declared.loader.Turn.{Turn}
 use Rattle.job.specs.declared.loader.Turn.the-variants.{Play, Stop}
-use Rattle.job.specs.declared.search.Decision.{Decision}
-use Rattle.job.specs.declared.search.Decision.the-variants.{NoErase, SectorErase}
+use Rattle.values.specs.declared.search.Decision.{Decision}
+use Rattle.values.specs.declared.search.Decision.the-variants.{NoErase, SectorErase}
 use Rattle.job.specs.declared.loading.Progress.{Progress}
 use Rattle.job.specs.declared.loading.Progress.the-variants.{Waiting, Within, Over}
 use Rattle.job.specs.declared.loading.Loading.{Loading}
 use Rattle.job.specs.declared.loading.LoadTurn.{LoadTurn}
-use Rattle.job.specs.Search.{decisionOf}
+use Rattle.values.specs.Search.{decisionOf}
 use Rattle.job.specs.Loader.{Turned, turned, readsCell, nextSector, lookOf, firstStep, beginOf, nextMark, fillOf, burnOf, carryOut, decideOf, afterwards, drivenOf, seenOf, scannedOf, stageOf, inJob, turnOf, placeOf}
 use Rattle.job.specs.Loading.{isEnding, loadTurn, LoadTurned, loadTurned, movedTo, jobIn, firstTurn, loadingInRange, stopsWith, taken, progressOf, loadTurnOf}
 use Rattle.job.specs.declared.loading.Sending.the-variants.{SendsNothing}

@@ -6,7 +6,8 @@ use lib.ListN.{length}
 use borrow.Author.Needs.{needs}
 use borrow.Author.Tests.{ne-eqb}
 use Rattle.job.specs.Bill.{loadOf}
-use Rattle.job.proofs.Billing.{none-given, image-few, range-fits, kept, timed, few-sent, bills}
+use Rattle.request.proofs.Bounds.{none-given}
+use Rattle.job.proofs.Billing.{image-few, range-fits, kept, timed, few-sent, bills}
 use Rattle.job.proofs.bill.load.Statement.{statement}
 use Rattle.job.proofs.bill.load.Tie as tie
 

@@ -4,7 +4,8 @@ use native.Mathlib.Omega.{arith}
 use borrow.Author.Needs.{needs}
 use borrow.Author.Tests.{ne-eqb}
 use Rattle.job.specs.Bill.{reportOf}
-use Rattle.job.proofs.Billing.{none-given, image-few, kept, few-most, few-sent, reports}
+use Rattle.request.proofs.Bounds.{none-given}
+use Rattle.job.proofs.Billing.{image-few, kept, few-most, few-sent, reports}
 use Rattle.job.proofs.bill.load_first.Statement.{statement}
 use Rattle.job.proofs.bill.load_first.Tie as tie
 

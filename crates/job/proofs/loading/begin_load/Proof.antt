@@ -4,7 +4,7 @@ use native.Mathlib.Omega.{arith}
 use borrow.Author.Tests.{ne-eqb}
 use borrow.Author.Needs.{needs}
 use Rattle.job.specs.Loading.{beginLoad}
-use Rattle.job.proofs.Billing.{none-given}
+use Rattle.request.proofs.Bounds.{none-given}
 use Rattle.job.proofs.InRange.{begun-few}
 use Rattle.job.proofs.loading.begin_load.Statement.{statement}
 use Rattle.job.proofs.loading.begin_load.Tie as tie

@@ -1,23 +1,15 @@
 -- `job::loader::Job::decide` meets its contract.
-use Prim.Native.Nat.{_+_, _-_, _≤_}
+use Prim.Native.Nat.{_+_, _-_}
 use mathlib.Core.Path.{_≡_, ap, sym, _∙_}
 use native.Mathlib.Omega.{arith}
-use lib.ListN.{length}
 use lib.Seq.{length-take-le}
 use borrow.Author.Needs.{needs}
 use Rattle.job.specs.Loader.{carryOut, decideOf}
-use Rattle.job.proofs.Turns.{part-length}
 use Rattle.job.proofs.loader.Job.decide.Statement.{statement}
 use Rattle.job.proofs.loader.Job.decide.Tie as tie
 
 slice-aggregate-decision-of : tie.Need-slice-aggregate-decision-of
 slice-aggregate-decision-of c = sym (length-take-le (c .before .before .before .before .args .self .size) (c .before .before .before .before .args .seen .now) (search needs))
-
-decision-of-requires : tie.Need-decision-of-requires
-decision-of-requires c κs = let g = c .before .before .before .before .before .args in
-    let e : g .base + g .self .size - g .base ≡ g .self .size = omega arith in
-    let h : g .base + g .self .size ≤ length (g .image .now) = omega (arith, c .before .before .before .before .before .pre .0 .count, c .before .before .before .before .before .pre .1 .0) in
-    rw e (length-take-le (g .self .size) (g .seen .now) (search needs) ∙ sym (part-length (g .image .now) (g .base) (g .self .size) h))
 
 returns : tie.Need-returns
 unfolding decideOf
@@ -36,6 +28,6 @@ decide-spec =
     (λ c. search needs)
     (λ c. search needs)
     (λ c. search needs)
-    decision-of-requires
+    (λ c κs. search needs)
     (λ c κs. search needs)
     returns)

@@ -7,7 +7,7 @@ use borrow.Author.Needs.{needs}
 use borrow.Author.Tests.{lt-ltb, le-ltb}
 use Rattle.job.specs.Loader.{fillOf}
 use Rattle.parts.proofs.Values.{blank-word}
-use Rattle.job.proofs.Turns.{leading-part, next-mark}
+use Rattle.job.proofs.Marks.{leading-part, next-mark}
 use Rattle.job.proofs.loader.Job.fill.Statement.{statement}
 use Rattle.job.proofs.loader.Job.fill.Tie as tie
 

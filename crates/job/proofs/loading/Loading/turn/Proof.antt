@@ -3,7 +3,7 @@ use mathlib.Core.Path.{ap, sym, _∙_}
 use native.Mathlib.Omega.{arith}
 use borrow.Author.Needs.{needs}
 use Rattle.job.specs.Loading.{LoadTurned}
-use Rattle.job.proofs.Billing.{none-given}
+use Rattle.request.proofs.Bounds.{none-given}
 use Rattle.job.proofs.InRange.{standing-found, job-found, out-of-range, other-image, turns-job, job-fits}
 use Rattle.job.proofs.loading.Loading.turn.Statement.{statement}
 use Rattle.job.proofs.loading.Loading.turn.Tie as tie

@@ -1,0 +1,4 @@
+pub mod Turns
+pub mod Clears
+pub mod Places
+pub mod Determined
