@@ -4,7 +4,7 @@ use Rattle.job.proofs.loader.purpose_of.Statement.{statement}
 use Rattle.job.proofs.loader.purpose_of.Tie as tie
 
 returns-2 : tie.Need-returns-2
-returns-2 c = simp (c .before .enum-told2 .given .1) (cc (c .write-purpose .ensures, c .before .before .before .is-polling .ensures))
+returns-2 c = simp (c .before .enum-told2 .given .1) (rw (c .before .before .before .is-polling .ensures) at (c .write-purpose .ensures))
 
 pub purpose-of-spec : {M : Type 1} → statement M
 purpose-of-spec =
