@@ -1,5 +1,5 @@
 /* What the station's C or C++ controller links from libstation.a, which `rt staticlib station`
-   writes. The archive is for x86-64 Linux and needs no library but C's memset. Every function in it
+   writes; one call is in libalone.a. The archives are for x86-64 Linux and needs no library but C's memset. Every function in it
    is proved to meet its promise.
 
    In the order in which a controller comes to them: the figures of a part; a command by the driver,
@@ -324,6 +324,11 @@ struct station_report {
    STATION_NOT_SECTORS, STATION_PAST_CELLS, STATION_VALUE_TOO_LARGE, STATION_PROTECTED. */
 struct station_bill station_load(uint32_t part, uint16_t *cells, size_t n, uint32_t first,
                                  const uint16_t *image, size_t m, uint32_t wp, uint32_t p);
+
+/* The same, in an archive of its own, libalone.a, which is linked beside libstation.a where the time
+   of a whole job counts: it takes a third. */
+struct station_bill station_load_alone(uint32_t part, uint16_t *cells, size_t n, uint32_t first,
+                                       const uint16_t *image, size_t m, uint32_t wp, uint32_t p);
 
 /* The same job, but only its first k cycles are sent; all of them if it has fewer. */
 struct station_report station_load_first(uint32_t part, uint16_t *cells, size_t n, uint32_t first,

@@ -104,8 +104,8 @@ static int perform(const struct asked *asked, struct job *job, struct values *be
     int status = mapped ? copy(&job->cells, before) : STATUS_DONE;
     if (status != STATUS_DONE)
         return status;
-    const struct station_bill bill = station_load(job->part, job->cells.at, job->cells.count, job->first, job->image.at,
-                                                  job->image.count, job->wp, job->p);
+    const struct station_bill bill = station_load_alone(job->part, job->cells.at, job->cells.count, job->first, job->image.at,
+                                                        job->image.count, job->wp, job->p);
     if (bill.answer != STATION_TAKEN)
         return refused(bill.answer);
     if (mapped)

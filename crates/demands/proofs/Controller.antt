@@ -86,6 +86,7 @@ controller =
       cycle-same = λ c l e. let n = onStation c .device in
           station-left c ∙ (ap (λ (g : OnBus). cycledNumbers n (cycleAsked g)) e ∙ sym (ap (cycledNumbers n) (bus-left l)));
       load-same = λ c l e. station-load-left c ∙ (ap loadAsked e ∙ sym (load-left l));
+      load-alone-same = λ c l e. station-load-left c ∙ (ap loadAsked e ∙ sym (load-left l));
       load-first-same = λ c l e. station-load-first-left c ∙ (ap loadFirstAsked e ∙ sym (load-first-left l));
       begin-same = λ c l e. c .promise ∙ (ap (λ (g : ToBegin). beginNumbers (beginAsked g)) e ∙ sym (ap beginNumbers (l .promise)));
       turn-same = λ c l far phase e. let g = numbersToTurn c in

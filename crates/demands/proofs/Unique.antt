@@ -11,6 +11,7 @@ use Rattle.job.proofs.Determined as job
 use Rattle.numbers.proofs.Determined as numbers
 use Rattle.jobfile.proofs.Determined as jobfile
 use Rattle.billing.proofs.Determined as billing
+use Rattle.alone.proofs.Determined as alone
 use Rattle.station.proofs.Determined as station
 use Rattle.demands.specs.Unique.{Unique}
 
@@ -73,6 +74,7 @@ unique =
       station-idle = station.idle-unique;
       station-cut = station.cut-unique;
       station-load = station.load-unique;
+      station-load-alone = alone.load-alone-unique;
       station-load-first = station.load-first-unique;
       station-begin = station.begin-unique;
       station-turn = station.turn-unique;

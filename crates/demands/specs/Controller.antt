@@ -23,6 +23,8 @@ use Rattle.numbers.specs.declared.machine.DriverNumbers.{DriverNumbers}
 use Rattle.numbers.specs.declared.loading.LoadingNumbers.{LoadingNumbers}
 use Rattle.numbers.specs.Loading.{loadingNumbers, loadingOf, beginNumbers, TurnedNumbers, turnedNumbers}
 use Rattle.numbers.specs.Machine.{driverNumbers, driverOf, startNumbers, stepNumbers}
+use Rattle.alone.proofs.station_load_alone.Kinds as alone-kinds
+use Rattle.alone.proofs.station_load_alone.Reads as alone-reads
 use Rattle.station.proofs.station_start.Kinds as start-kinds
 use Rattle.station.proofs.station_start.Reads as start-reads
 use Rattle.station.proofs.station_step.Kinds as step-kinds
@@ -121,9 +123,12 @@ stationLeft (byCut c) = record { cells = c .ends .1 .0 .now; reply = c .back }
 abbrev pub meant : OnStation → OnBus
 meant g = record { part = g .part; cells = g .cells; device = deviceOf (g .device); cycle = g .cycle }
 
--- ---- station_load(part, cells, first, image, wp, p); and station_load_first(part, cells, first, image, wp, p, k)
+-- ---- station_load(part, cells, first, image, wp, p), station_load_alone of the same; and station_load_first(part, cells, first, image, wp, p, k)
 abbrev pub StationLoadCall : Type 0
 StationLoadCall = Call 2 load-kinds.ps load-kinds.r load-reads.Post
+
+abbrev pub StationLoadAloneCall : Type 0
+StationLoadAloneCall = Call 2 alone-kinds.ps alone-kinds.r alone-reads.Post
 
 abbrev pub StationLoadFirstCall : Type 0
 StationLoadFirstCall = Call 2 first-kinds.ps first-kinds.r first-reads.Post
@@ -214,6 +219,8 @@ pub record Controller : Type 0 where
   pub cycle-same : (c : StationBusCall) (l : BusCall) → meant (onStation c) ≡ onBus l
       → stationLeft c ≡ cycledNumbers (onStation c .device) (busLeft l)
   pub load-same : (c : StationLoadCall) (l : LoadCall) → stationToLoad c ≡ toLoad l → stationLoadLeft c ≡ loadLeft l
+  -- A call of the job alone is one of station_load.
+  pub load-alone-same : (c : StationLoadAloneCall) (l : LoadCall) → stationToLoad c ≡ toLoad l → stationLoadLeft c ≡ loadLeft l
   pub load-first-same : (c : StationLoadFirstCall) (l : LoadFirstCall) → stationToLoadFirst c ≡ toLoadFirst l
       → stationLoadFirstLeft c ≡ loadFirstLeft l
   pub begin-same : (c : StationBeginCall) (l : BeginCall) → stationToBegin c ≡ toBegin l → c .back ≡ beginNumbers (l .back)

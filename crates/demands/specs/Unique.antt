@@ -117,6 +117,8 @@ use Rattle.station.proofs.station_idle.Kinds as c-idle-kinds
 use Rattle.station.proofs.station_idle.Reads as c-idle-reads
 use Rattle.station.proofs.station_cut.Kinds as c-cut-kinds
 use Rattle.station.proofs.station_cut.Reads as c-cut-reads
+use Rattle.alone.proofs.station_load_alone.Kinds as alone-kinds
+use Rattle.alone.proofs.station_load_alone.Reads as alone-reads
 use Rattle.station.proofs.station_load.Kinds as c-load-kinds
 use Rattle.station.proofs.station_load.Reads as c-load-reads
 use Rattle.station.proofs.station_load_first.Kinds as c-load-first-kinds
@@ -213,6 +215,7 @@ pub record Unique : Type 0 where
   pub station-idle : OneOutcome 1 c-idle-kinds.ps c-idle-kinds.r c-idle-reads.Post (λ κs s. s .1 .0 .now)
   pub station-cut : OneOutcome 1 c-cut-kinds.ps c-cut-kinds.r c-cut-reads.Post (λ κs s. s .1 .0 .now)
   pub station-load : OneOutcome 2 c-load-kinds.ps c-load-kinds.r c-load-reads.Post (λ κs s. s .1 .0 .now)
+  pub station-load-alone : OneOutcome 2 alone-kinds.ps alone-kinds.r alone-reads.Post (λ κs s. s .1 .0 .now)
   pub station-load-first : OneOutcome 2 c-load-first-kinds.ps c-load-first-kinds.r c-load-first-reads.Post (λ κs s. s .1 .0 .now)
   pub station-begin : OneResult 1 c-begin-kinds.ps c-begin-kinds.r c-begin-reads.Post
   pub station-turn : OneOutcome 2 c-turn-kinds.ps c-turn-kinds.r c-turn-reads.Post (λ κs s. s .1 .1 .0 .now)
