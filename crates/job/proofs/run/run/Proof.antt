@@ -45,10 +45,13 @@ loop-again : tie.Need-loop-again Inv-loop μ-loop
 loop-again c = let s = c .before .before .before .before .send in
     let told = c .before .before .before .before .before .before in
     let t = told .before .turn .given in
-    let l = told .before .before .before .before .before .loop in
+    let at = told .before .before .before .before .before in
+    let g = at .before .before .before .before .before .args in
+    let l = at .loop in
     let short : t .0 .1 .1 .0 .elapsed ≤ 4294967295 = omega (arith, told .known-told .given) in
     let test = told .before .before .before .if1 .taken in
-    (s .kept .1 .0 ∙ l .inv .0, turns _ _ _ _ _ _ _ _ _ _ _ _ _ _ _ test (t .1) (s .ensures .0) (s .ensures .1) (c .turn2 .ensures .0) (c .turn2 .ensures .1) short (l .inv .1))
+    let go = turns (g .job) (g .image .now) (g .k) (l .seen) _ (l .turn) (c .turn2 .result) (t .0 .0) (t .0 .1 .0) (t .0 .1 .1 .0) (l .cells) _ (l .held) (s .result) _ in
+    (s .kept .1 .0 ∙ l .inv .0, go test (t .1) (s .ensures .0) (s .ensures .1) (c .turn2 .ensures .0) (c .turn2 .ensures .1) short (l .inv .1))
 
 returns-2 : tie.Need-returns-2 Inv-loop μ-loop
 returns-2 c = let n = c .stop-number2 in passed _ _ _ _ (n .result) _ _ _ _ _ (c .before .if1 .left) (n .ensures) (c .before .before .before .loop .inv .1 .1 .1)
