@@ -1,6 +1,6 @@
 /* What the station's C or C++ controller links from libstation.a, which `rt staticlib station`
-   writes; one call is in libalone.a. The archives are for x86-64 Linux and needs no library but C's memset. Every function in it
-   is proved to meet its promise.
+   writes; one call is in libalone.a. The archives are for x86-64 Linux and need no library but C's
+   memset. Every function in them is proved to meet its promise.
 
    In the order in which a controller comes to them: the figures of a part; a command by the driver,
    cycle by cycle, against a chip; a whole job, so too; the model, which answers cycles where no chip
