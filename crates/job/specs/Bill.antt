@@ -19,6 +19,7 @@ use Rattle.values.specs.Total.{sumOf}
 use Rattle.request.specs.Refusal.{jobRefusal}
 use Rattle.job.specs.Run.{World, world, noLast, noneSent, playOf}
 use Rattle.job.specs.Sent.{sentOf}
+use Rattle.job.specs.Fits.{MOST-CYCLES}
 use Rattle.job.specs.Formulas.{operationTime}
 
 -- a job that was not refused: on a part that was looked up, and by the part's number
@@ -103,9 +104,9 @@ loadOf part cells first image wp p =
     (record { cells = cells; bill = refusedBill (jobRefusal part (length cells) first image wp p) })
 
 -- ---- inside the crate
--- no job sends more cycles than these
+-- as many cycles as any job sends, or fewer
 abbrev pub firstFew : ℕ → ℕ
-firstFew k = pick (ltb 2147483648 k) 2147483648 k
+firstFew k = pick (ltb MOST-CYCLES k) MOST-CYCLES k
 
 -- the numbers of a job that its full time needs
 pub record FullTimeFits (j : Job) : Type 0 where

@@ -12,6 +12,10 @@ pub record JobFits (j : Job) (n : ℕ) : Type 0 where
   pub most : j .size ≤ 4096
   pub narrow : j .row .width ≤ 16
 
+-- no job sends more cycles
+abbrev pub MOST-CYCLES : ℕ
+MOST-CYCLES = 2147483648
+
 -- counts of n cycles: none above n, and their µs
 pub record CountsFit (t : Tally) (n : ℕ) : Type 0 where
   pub erases : t .erases ≤ n

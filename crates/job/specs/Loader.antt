@@ -4,7 +4,7 @@ use mathlib.Core.Bool.{Bool, true, false}
 use mathlib.Core.List.{List}
 use lib.Dec.{eqb, ltb, leb}
 use lib.ListN.{getD, set, take, drop}
-use Rattle.parts.specs.Names.{PROGRAM, SECTOR}
+use Rattle.parts.specs.Names.{BAD-STATE, PROGRAM, SECTOR}
 use Rattle.parts.specs.Pick.{pick}
 use Rattle.parts.specs.Width.{valueOf, blankOf}
 use Rattle.chip.specs.declared.cycle.Action.{Action}
@@ -149,4 +149,4 @@ unfoldable pub turnOf : Job → List ℕ → List ℕ → Loader → ℕ → Tur
 turnOf j image seen l reply =
     pick (inJob j l)
     (turned (seenOf (l .stage) seen (l .at) reply) (stageOf j image (seenOf (l .stage) seen (l .at) reply) (l .stage) (l .base) (l .at) reply))
-    (turned seen (Stop 5))
+    (turned seen (Stop BAD-STATE))

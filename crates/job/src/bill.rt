@@ -1,6 +1,7 @@
 // The job, the second call, and the bill.
 use crate::loader::Job;
 use crate::run::Last;
+use crate::run::MOST_CYCLES;
 use crate::run::RunEnd;
 use crate::run::Tally;
 use crate::run::no_last;
@@ -174,8 +175,8 @@ fn write_bill(job: Job, t: Tally, sum: u16, answer: u32) -> Bill
 fn first_few(k: u64) -> u64
     ensures { λ r. ⌜ r ≡ firstFew k ⌝ }
 {
-    if 2147483648 < k {
-        return 2147483648;
+    if MOST_CYCLES < k {
+        return MOST_CYCLES;
     }
     k
 }
@@ -209,7 +210,7 @@ pub fn load(part: u32, cells: &mut [u16], first: u32, image: &[u16], wp: bool, p
         return refused_bill(answer);
     }
     let job = job_of(part, first, image.len() as u32, wp, p);
-    let ended = run(&mut *cells, job, image, 2147483648);
+    let ended = run(&mut *cells, job, image, MOST_CYCLES);
     let from = first as usize;
     let end = from + image.len();
     let total = values::sum(&cells[from..end], job.row.width);

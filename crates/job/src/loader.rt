@@ -6,6 +6,7 @@ use driver::Next;
 use driver::Phase;
 use driver::Step;
 use parts::Row;
+use parts::names::BAD_STATE;
 use parts::names::PROGRAM;
 use parts::names::SECTOR;
 use values::Decision;
@@ -360,7 +361,7 @@ impl Loader {
         ensures { λ r. ⌜ (r ≡ turnOf job (now (image .entry)) (now (seen .entry)) self reply .turn) × (now (seen .exit) ≡ turnOf job (now (image .entry)) (now (seen .entry)) self reply .seen) ⌝ }
     {
         if !self.is_in_job(job) {
-            return Turn::Stop(5);
+            return Turn::Stop(BAD_STATE);
         }
         self.keep(seen, reply);
         self.stage_turn(job, image, &seen[..], reply)

@@ -12,8 +12,11 @@ use parts::names::PROGRAM;
 ghost use mathlib.Core.Path.{_≡_};
 ghost use Prim.Native.Nat.{_<_, _≤_};
 ghost use lib.ListN.{length};
-ghost use Rattle.job.specs.Fits.{CountsFit, JobFits};
+ghost use Rattle.job.specs.Fits.{CountsFit, JobFits, MOST-CYCLES};
 ghost use Rattle.job.specs.Run.{begunOf, countedOf, runEnd, lastOf, noLast, noneSent, runFrom, sendOf, stopFrom, stopNumber, world};
+
+// No job sends more cycles.
+pub(crate) const MOST_CYCLES: u64 = 2147483648;
 
 // What the cycles sent so far have counted, and their µs.
 pub struct Tally {
@@ -90,7 +93,7 @@ fn last_of(elapsed: u32, wp: bool, action: Action) -> Last
 impl Tally {
     // An operation more.
     fn begun(self, command: u32, elapsed: u32) -> Tally
-        requires { ⌜ CountsFit self 2147483648 ⌝ }
+        requires { ⌜ CountsFit self MOST-CYCLES ⌝ }
         ensures { λ r. ⌜ r ≡ begunOf self command elapsed ⌝ }
     {
         let mut t = self;
@@ -105,7 +108,7 @@ impl Tally {
 
     // A cycle more.
     fn counted(self, purpose: Purpose, elapsed: u32) -> Tally
-        requires { ⌜ CountsFit self 2147483648 ⌝ }
+        requires { ⌜ CountsFit self MOST-CYCLES ⌝ }
         ensures { λ r. ⌜ r ≡ countedOf self purpose elapsed ⌝ }
     {
         let mut t = self;
@@ -152,8 +155,8 @@ fn none_sent() -> Held
 
 // Sends one cycle.
 fn send(part: u32, cells: &mut [u16], h: Held, purpose: Purpose, cycle: Cycle) -> Held
-    requires { ⌜ CountsFit (h .tally) 2147483648 ⌝ }
-    requires { ⌜ h .sent < 2147483648 ⌝ }
+    requires { ⌜ CountsFit (h .tally) MOST-CYCLES ⌝ }
+    requires { ⌜ h .sent < MOST-CYCLES ⌝ }
     ensures { λ r. ⌜ (r ≡ sendOf part (world (now (cells .entry)) h) purpose cycle .held) × (now (cells .exit) ≡ sendOf part (world (now (cells .entry)) h) purpose cycle .cells) ⌝ }
 {
     let device = h.device;
@@ -183,7 +186,7 @@ fn stop_number(turn: Turn) -> u32
 // Sends the loader's cycles, at most k.
 pub(crate) fn run(cells: &mut [u16], job: Job, image: &[u16], k: u64) -> RunEnd
     requires { ⌜ JobFits job (length (now image)) ⌝ }
-    requires { ⌜ k ≤ 2147483648 ⌝ }
+    requires { ⌜ k ≤ MOST-CYCLES ⌝ }
     ensures { λ r. ⌜ (r ≡ runEnd (runFrom job (now (image .entry)) (now (cells .entry)) k .held) (stopFrom job (now (image .entry)) (now (cells .entry)) k)) × (now (cells .exit) ≡ runFrom job (now (image .entry)) (now (cells .entry)) k .cells) ⌝ }
 {
     let mut seen = [0u16; 4096];
