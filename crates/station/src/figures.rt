@@ -8,8 +8,7 @@ ghost use Rattle.driver.specs.Writes.{kthWrite};
 pub extern "C" fn station_figure(part: u32, column: u32) -> u32
     ensures { λ r. ⌜ r ≡ figureOf part column .value ⌝ }
 {
-    let figure = table::part_figure(part, column);
-    figure.value
+    lookup::figure(part, column)
 }
 
 // The answer to the same question: 0, or the refusal 1 or 15.
@@ -17,8 +16,7 @@ pub extern "C" fn station_figure(part: u32, column: u32) -> u32
 pub extern "C" fn station_figure_answer(part: u32, column: u32) -> u32
     ensures { λ r. ⌜ r ≡ figureOf part column .answer ⌝ }
 {
-    let asked = table::part_figure(part, column);
-    asked.answer
+    lookup::figure_answer(part, column)
 }
 
 // The address of the k-th write of a command, from 0; 0 where it is refused.
@@ -32,8 +30,7 @@ pub extern "C" fn station_write_address(
 ) -> u32
     ensures { λ r. ⌜ r ≡ kthWrite part command address «data» k .address ⌝ }
 {
-    let place = driver::kth_write(part, command, address, data, k);
-    place.address
+    lookup::write_address(part, command, address, data, k)
 }
 
 // The data of the same write; 0 where it is refused.
@@ -47,8 +44,7 @@ pub extern "C" fn station_write_data(
 ) -> u16
     ensures { λ r. ⌜ r ≡ kthWrite part command address «data» k .«data» ⌝ }
 {
-    let word = driver::kth_write(part, command, address, data, k);
-    word.data
+    lookup::write_data(part, command, address, data, k)
 }
 
 // The answer to the same question: 0, or the refusal 1, 14, 3, 4 or 15.
@@ -62,6 +58,5 @@ pub extern "C" fn station_write_answer(
 ) -> u32
     ensures { λ r. ⌜ r ≡ kthWrite part command address «data» k .answer ⌝ }
 {
-    let standing = driver::kth_write(part, command, address, data, k);
-    standing.answer
+    lookup::write_answer(part, command, address, data, k)
 }

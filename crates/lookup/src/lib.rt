@@ -1,0 +1,44 @@
+// What a controller looks up: the figures of a part, and the k-th write of a command, each number by a call of its own.
+ghost use mathlib.Core.Path.{_≡_};
+ghost use Rattle.table.specs.Figures.{figureOf};
+ghost use Rattle.driver.specs.Writes.{kthWrite};
+
+// The figure of a part in a column, 0 Width to 6 Chip; 0 where it is refused.
+pub fn figure(part: u32, column: u32) -> u32
+    ensures { λ r. ⌜ r ≡ figureOf part column .value ⌝ }
+{
+    let found = table::part_figure(part, column);
+    found.value
+}
+
+// The answer to the same question: 0, or the refusal 1 or 15.
+pub fn figure_answer(part: u32, column: u32) -> u32
+    ensures { λ r. ⌜ r ≡ figureOf part column .answer ⌝ }
+{
+    let asked = table::part_figure(part, column);
+    asked.answer
+}
+
+// The address of the k-th write of a command, from 0; 0 where it is refused.
+pub fn write_address(part: u32, command: u32, address: u32, data: u16, k: u32) -> u32
+    ensures { λ r. ⌜ r ≡ kthWrite part command address «data» k .address ⌝ }
+{
+    let place = driver::kth_write(part, command, address, data, k);
+    place.address
+}
+
+// The data of the same write; 0 where it is refused.
+pub fn write_data(part: u32, command: u32, address: u32, data: u16, k: u32) -> u16
+    ensures { λ r. ⌜ r ≡ kthWrite part command address «data» k .«data» ⌝ }
+{
+    let word = driver::kth_write(part, command, address, data, k);
+    word.data
+}
+
+// The answer to the same question: 0, or the refusal 1, 14, 3, 4 or 15.
+pub fn write_answer(part: u32, command: u32, address: u32, data: u16, k: u32) -> u32
+    ensures { λ r. ⌜ r ≡ kthWrite part command address «data» k .answer ⌝ }
+{
+    let standing = driver::kth_write(part, command, address, data, k);
+    standing.answer
+}
