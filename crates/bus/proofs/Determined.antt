@@ -4,14 +4,8 @@ use mathlib.Core.Path.{_≡_, sym, _∙_}
 use contract.Lifetimes.{Lfts}
 use borrow.Fn.Kinds.{Dens, endedOf, resT}
 use denote.Triple.Clauses.{AtExit}
-use Rattle.parts.proofs.Unique.{Unique}
-use Rattle.bus.proofs.cycle.device_numbers.Kinds as device-kinds
-use Rattle.bus.proofs.cycle.device_numbers.Reads as device-reads
 use Rattle.bus.proofs.cycle.cycled.Kinds as cycled-kinds
 use Rattle.bus.proofs.cycle.cycled.Reads as cycled-reads
-
-pub device-numbers-unique : Unique device-kinds.ps device-kinds.r device-reads.Post
-device-numbers-unique κs a x y s t p q = p ∙ sym q
 
 pub cycled-unique : (κs : Lfts 1) (a : Dens κs cycled-kinds.ps) (x y : resT cycled-kinds.r κs .Denot)
     (s t : AtExit (endedOf 1 cycled-kinds.ps cycled-kinds.r) κs) → cycled-reads.Post κs a x s → cycled-reads.Post κs a y t

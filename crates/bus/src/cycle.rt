@@ -10,7 +10,7 @@ ghost use mathlib.Core.Path.{_≡_};
 ghost use Rattle.bus.specs.Cycle.{cycledOf, deviceNumbers, deviceOf, modeAt, modeNumber, noState, replyNumbers, bitNumber};
 
 // ---- the numbers of the modes
-const READ_MODE: u32 = 0;
+pub const READ_MODE: u32 = 0;
 
 const IDENTIFICATION: u32 = 1;
 
@@ -80,7 +80,7 @@ fn no_state() -> Device
 }
 
 // The numbers of a device.
-pub fn device_numbers(d: Device) -> DeviceNumbers
+fn device_numbers(d: Device) -> DeviceNumbers
     ensures { λ r. ⌜ r ≡ deviceNumbers d ⌝ }
 {
     let core = d.core;

@@ -2,6 +2,6 @@
 mod cycle;
 
 pub use cycle::DeviceNumbers;
+pub use cycle::READ_MODE;
 pub use cycle::ReplyNumbers;
 pub use cycle::cycled;
-pub use cycle::device_numbers;

@@ -6,7 +6,6 @@ use Rattle.request.proofs.Determined as request
 use Rattle.commands.proofs.Determined as commands
 use Rattle.chip.proofs.Determined as chip
 use Rattle.driver.proofs.Determined as driver
-use Rattle.lookup.proofs.Determined as lookup
 use Rattle.bus.proofs.Determined as bus
 use Rattle.job.proofs.Determined as job
 use Rattle.numbers.proofs.Determined as numbers
@@ -49,18 +48,12 @@ unique =
       step = driver.step-unique;
       command-writes = driver.command-writes-unique;
       kth-write = driver.kth-write-unique;
-      figure = lookup.figure-unique;
-      figure-answer = lookup.figure-answer-unique;
-      write-address = lookup.write-address-unique;
-      write-data = lookup.write-data-unique;
-      write-answer = lookup.write-answer-unique;
       load = job.load-unique;
       load-first = job.load-first-unique;
       begin-load = job.begin-load-unique;
       turn = job.turn-unique;
       start-numbers = numbers.start-numbers-unique;
       stepped = numbers.stepped-unique;
-      device-numbers = bus.device-numbers-unique;
       cycled = bus.cycled-unique;
       begin-numbers = numbers.begin-numbers-unique;
       turned = numbers.turned-unique;

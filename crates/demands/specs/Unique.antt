@@ -67,18 +67,6 @@ use Rattle.driver.proofs.command_writes.Kinds as command-writes-kinds
 use Rattle.driver.proofs.command_writes.Reads as command-writes-reads
 use Rattle.driver.proofs.kth_write.Kinds as kth-write-kinds
 use Rattle.driver.proofs.kth_write.Reads as kth-write-reads
-use Rattle.lookup.proofs.figure.Kinds as l-figure-kinds
-use Rattle.lookup.proofs.figure.Reads as l-figure-reads
-use Rattle.lookup.proofs.figure_answer.Kinds as l-figure-answer-kinds
-use Rattle.lookup.proofs.figure_answer.Reads as l-figure-answer-reads
-use Rattle.lookup.proofs.write_address.Kinds as l-write-address-kinds
-use Rattle.lookup.proofs.write_address.Reads as l-write-address-reads
-use Rattle.lookup.proofs.write_data.Kinds as l-write-data-kinds
-use Rattle.lookup.proofs.write_data.Reads as l-write-data-reads
-use Rattle.lookup.proofs.write_answer.Kinds as l-write-answer-kinds
-use Rattle.lookup.proofs.write_answer.Reads as l-write-answer-reads
-use Rattle.bus.proofs.device_numbers.Kinds as n-device-kinds
-use Rattle.bus.proofs.device_numbers.Reads as n-device-reads
 use Rattle.bus.proofs.cycled.Kinds as n-cycled-kinds
 use Rattle.bus.proofs.cycled.Reads as n-cycled-reads
 use Rattle.job.proofs.load.Kinds as load-kinds
@@ -194,12 +182,6 @@ pub record Unique : Type 0 where
   pub step : OneResult 0 step-kinds.ps step-kinds.r step-reads.Post
   pub command-writes : OneResult 0 command-writes-kinds.ps command-writes-kinds.r command-writes-reads.Post
   pub kth-write : OneResult 0 kth-write-kinds.ps kth-write-kinds.r kth-write-reads.Post
-  -- what a controller looks up
-  pub figure : OneResult 0 l-figure-kinds.ps l-figure-kinds.r l-figure-reads.Post
-  pub figure-answer : OneResult 0 l-figure-answer-kinds.ps l-figure-answer-kinds.r l-figure-answer-reads.Post
-  pub write-address : OneResult 0 l-write-address-kinds.ps l-write-address-kinds.r l-write-address-reads.Post
-  pub write-data : OneResult 0 l-write-data-kinds.ps l-write-data-kinds.r l-write-data-reads.Post
-  pub write-answer : OneResult 0 l-write-answer-kinds.ps l-write-answer-kinds.r l-write-answer-reads.Post
   -- the job
   pub load : OneOutcome 2 load-kinds.ps load-kinds.r load-reads.Post (λ κs s. s .1 .0 .now)
   pub load-first : OneOutcome 2 load-first-kinds.ps load-first-kinds.r load-first-reads.Post (λ κs s. s .1 .0 .now)
@@ -208,7 +190,6 @@ pub record Unique : Type 0 where
   -- the states as numbers
   pub start-numbers : OneResult 0 n-start-kinds.ps n-start-kinds.r n-start-reads.Post
   pub stepped : OneResult 0 n-stepped-kinds.ps n-stepped-kinds.r n-stepped-reads.Post
-  pub device-numbers : OneResult 0 n-device-kinds.ps n-device-kinds.r n-device-reads.Post
   pub cycled : OneOutcome 1 n-cycled-kinds.ps n-cycled-kinds.r n-cycled-reads.Post (λ κs s. s .1 .0 .now)
   pub begin-numbers : OneResult 0 n-begin-kinds.ps n-begin-kinds.r n-begin-reads.Post
   pub turned : OneOutcome 2 n-turned-kinds.ps n-turned-kinds.r n-turned-reads.Post (λ κs s. s .1 .1 .0 .now)

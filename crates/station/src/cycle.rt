@@ -1,17 +1,27 @@
 // The bus cycle: the device crosses as plain numbers, and any numbers may be given.
 use bus::DeviceNumbers;
+use bus::READ_MODE;
 use bus::ReplyNumbers;
 use chip::Action;
+use parts::names::NONE_BEGUN;
 ghost use mathlib.Core.Path.{_≡_};
 ghost use Rattle.chip.specs.Device.{freshDevice};
 ghost use Rattle.bus.specs.Cycle.{cycledOf, deviceNumbers};
 
-// A fresh device.
+// A fresh device: read mode, no sequence begun, nothing running.
 #[no_mangle]
 pub extern "C" fn station_fresh() -> DeviceNumbers
     ensures { λ r. ⌜ r ≡ deviceNumbers freshDevice ⌝ }
 {
-    bus::device_numbers(chip::fresh())
+    DeviceNumbers {
+        mode: READ_MODE,
+        stage: NONE_BEGUN,
+        kind: 0,
+        address: 0,
+        data: 0,
+        left: 0,
+        toggle: 0,
+    }
 }
 
 // A read: refusals 1, 2, 5, 3.

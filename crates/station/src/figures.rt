@@ -8,7 +8,8 @@ ghost use Rattle.driver.specs.Writes.{kthWrite};
 pub extern "C" fn station_figure(part: u32, column: u32) -> u32
     ensures { λ r. ⌜ r ≡ figureOf part column .value ⌝ }
 {
-    lookup::figure(part, column)
+    let figure = table::part_figure(part, column);
+    figure.value
 }
 
 // The answer to the same question: 0, or the refusal 1 or 15.
@@ -16,7 +17,8 @@ pub extern "C" fn station_figure(part: u32, column: u32) -> u32
 pub extern "C" fn station_figure_answer(part: u32, column: u32) -> u32
     ensures { λ r. ⌜ r ≡ figureOf part column .answer ⌝ }
 {
-    lookup::figure_answer(part, column)
+    let asked = table::part_figure(part, column);
+    asked.answer
 }
 
 // The address of the k-th write of a command, from 0; 0 where it is refused.
@@ -30,7 +32,8 @@ pub extern "C" fn station_write_address(
 ) -> u32
     ensures { λ r. ⌜ r ≡ kthWrite part command address «data» k .address ⌝ }
 {
-    lookup::write_address(part, command, address, data, k)
+    let place = driver::kth_write(part, command, address, data, k);
+    place.address
 }
 
 // The data of the same write; 0 where it is refused.
@@ -44,7 +47,8 @@ pub extern "C" fn station_write_data(
 ) -> u16
     ensures { λ r. ⌜ r ≡ kthWrite part command address «data» k .«data» ⌝ }
 {
-    lookup::write_data(part, command, address, data, k)
+    let word = driver::kth_write(part, command, address, data, k);
+    word.data
 }
 
 // The answer to the same question: 0, or the refusal 1, 14, 3, 4 or 15.
@@ -58,5 +62,6 @@ pub extern "C" fn station_write_answer(
 ) -> u32
     ensures { λ r. ⌜ r ≡ kthWrite part command address «data» k .answer ⌝ }
 {
-    lookup::write_answer(part, command, address, data, k)
+    let standing = driver::kth_write(part, command, address, data, k);
+    standing.answer
 }
