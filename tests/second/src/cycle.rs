@@ -1,6 +1,10 @@
-//! "One bus cycle" and "Writes in sequence": the model of the chip.
+//! "One bus cycle" and "Writes in sequence": the model of the chip, with the
+//! word that comes 1 µs after bit 7.
 
 use crate::part::{Kind, Part, MAKER};
+
+/// The bit that Data# Polling goes by.
+const BIT_7: u16 = 0x80;
 
 #[derive(Clone, Copy, Debug, Default, PartialEq, Eq)]
 pub enum Mode {
@@ -25,6 +29,8 @@ pub struct Device {
     pub left: u32,
     /// What bit 6 shows at the next busy read.
     pub toggle: bool,
+    /// 1 while a completion is 0 µs old, else 0.
+    pub recent: u32,
 }
 
 #[derive(Clone, Copy, Debug, PartialEq, Eq)]
@@ -99,7 +105,7 @@ fn accept(number: u32, lent: usize, device: &Device, cycle: &Cycle) -> Result<&'
 
 /// Is the given state in range for its part? (Refusal 5 if not.)
 pub fn in_range(part: &Part, device: &Device) -> bool {
-    if device.stage > 6 {
+    if device.stage > 6 || device.recent > 1 {
         return false;
     }
     if device.left == 0 {
@@ -114,6 +120,7 @@ pub fn in_range(part: &Part, device: &Device) -> bool {
         && device.data <= part.blank()
         && device.mode == Mode::Read
         && device.stage == 0
+        && device.recent == 0
 }
 
 /// The running operation, if one is running.
@@ -126,10 +133,13 @@ fn running(device: &Device) -> Option<Kind> {
 }
 
 /// Time passes: with less than the time left the operation goes on, otherwise
-/// it completes on the cells. What passes beyond that is dropped.
+/// it completes on the cells. What passes beyond that only makes it older.
 fn pass_time(part: &Part, cells: &mut [u16], device: Device, elapsed: u32) -> Device {
     let Some(kind) = running(&device) else {
-        return device;
+        return Device {
+            recent: if elapsed == 0 { device.recent } else { 0 },
+            ..device
+        };
     };
     if elapsed < device.left {
         return Device {
@@ -144,15 +154,19 @@ fn pass_time(part: &Part, cells: &mut [u16], device: Device, elapsed: u32) -> De
         Kind::Sector | Kind::Block | Kind::Chip => touched.fill(part.blank()),
     }
     // A running operation is only valid in read mode with no sequence begun,
-    // so the device with its operation gone is the fresh one.
-    Device::default()
+    // so the device with its operation gone is the fresh one, but for the
+    // completion.
+    Device {
+        recent: u32::from(elapsed == device.left),
+        ..Device::default()
+    }
 }
 
 /// A read, busy or at rest. It never disturbs a sequence.
 fn read(part: &Part, cells: &[u16], device: Device, address: u32) -> (u16, Device) {
     if let Some(kind) = running(&device) {
         let bit_7 = match kind {
-            Kind::Program => !device.data & 0x80,
+            Kind::Program => !device.data & BIT_7,
             Kind::Sector | Kind::Block | Kind::Chip => 0,
         };
         let bit_6 = if device.toggle { 0x40 } else { 0 };
@@ -168,7 +182,11 @@ fn read(part: &Part, cells: &[u16], device: Device, address: u32) -> (u16, Devic
         (Mode::Identification, 1) => part.device,
         (Mode::Identification, _) => 0,
     };
-    (value, device)
+    let inverted = match device.recent {
+        0 => 0,
+        _ => part.value(!BIT_7),
+    };
+    (value ^ inverted, device)
 }
 
 /// A write: while busy it does nothing, at rest it continues or breaks the
@@ -199,6 +217,7 @@ fn write(part: &Part, device: Device, address: u32, data: u16, wp_high: bool) ->
             data,
             left: part.time(kind),
             toggle: true,
+            recent: 0,
         }
     };
     match device.stage {

@@ -11,6 +11,9 @@ pub struct Writes {
     pub list: [(u32, u16); 6],
 }
 
+/// µs that the confirming read carries.
+pub const CONFIRMING_TIME: u32 = 1;
+
 pub const WRITING: u32 = 0;
 pub const POLLING: u32 = 1;
 pub const CONFIRMING: u32 = 2;
@@ -231,7 +234,7 @@ pub fn step(driver: Driver, read: u16) -> Step {
         // The last cycle was the last write: its value is ignored.
         POLLING if driver.count == 0 => poll(),
         POLLING if (read ^ wanted) & 0x80 == 0 => {
-            let elapsed = 0;
+            let elapsed = CONFIRMING_TIME;
             go_on(CONFIRMING, driver.count, Named::Read { elapsed, address })
         }
         POLLING if driver.count == 2 * part.polls(kind, driver.p) => end(GAVE_UP),

@@ -67,6 +67,29 @@ const NAMES: &[&str] = &[
     "cycle: time equal to the time left",
     "cycle: time one above the time left",
     "cycle: cut at the time left or later",
+    "cycle: program completed just then",
+    "cycle: sector completed just then",
+    "cycle: block completed just then",
+    "cycle: chip completed just then",
+    "cycle: read as an operation completes",
+    "cycle: write as an operation completes",
+    "cycle: idle as an operation completes",
+    "cycle: cut as an operation completes",
+    "cycle: read one µs past the time left",
+    "cycle: read, completion 0 µs old",
+    "cycle: read, completion 0 µs old, eight-bit part",
+    "cycle: read, completion 0 µs old, in identification",
+    "cycle: read, completion 0 µs old, inside a sequence",
+    "cycle: read, completion 1 µs old",
+    "cycle: idle, completion 0 µs old",
+    "cycle: cut, completion 0 µs old",
+    "cycle: sequence continued, completion 0 µs old",
+    "cycle: sequence broken, completion 0 µs old",
+    "cycle: identification entered, completion 0 µs old",
+    "cycle: command ignored, completion 0 µs old",
+    "cycle: program started, completion 0 µs old",
+    "cycle: erase started, completion 0 µs old",
+    "cycle: refused, completion 0 µs old",
     "cycle: cut at rest",
     "cycle: cut in identification",
     "cycle: cut inside a sequence",
@@ -91,6 +114,9 @@ const NAMES: &[&str] = &[
     "cycle: refusal 5 by data only",
     "cycle: refusal 5 by identification only",
     "cycle: refusal 5 by a sequence only",
+    "cycle: refusal 5 by a completion 0 µs old only",
+    "cycle: refusal 5 by recent above 1, something running",
+    "cycle: refusal 5 by recent above 1, nothing running",
     "figure: answer 0",
     "figure: refusal 1",
     "figure: refusal 15",
@@ -134,6 +160,8 @@ const NAMES: &[&str] = &[
     "run: ends with 12",
     "run: stopped by its limit",
     "run: stopped by a refused cycle",
+    "run: stopped as its operation completes",
+    "run: taken up, completion 0 µs old",
     "job: accepted",
     "job: count 0",
     "job: sector erased",
@@ -147,10 +175,11 @@ const NAMES: &[&str] = &[
     "job: refusal 8",
     "job: refusal 9",
     "second call: none sent",
-    "second call: ends with a scan or confirming read",
+    "second call: ends with a scan",
+    "second call: ends with a poll or confirming read",
+    "second call: ends with a poll as its operation completes",
     "second call: ends with a confirming read",
     "second call: ends with a write",
-    "second call: ends with a poll",
     "second call: ends with an operation running",
     "second call: k past the list",
     "second call: refused",
@@ -192,7 +221,8 @@ impl Counts {
             .unwrap_or_else(|| panic!("no event {name:?}")) += number;
     }
 
-    fn add_if(&mut self, holds: bool, name: &str) {
+    /// Counts an event of the list where it holds.
+    pub fn add_if(&mut self, holds: bool, name: &str) {
         if holds {
             self.add(name);
         }
@@ -216,6 +246,9 @@ impl Counts {
 
 /// The names of the kinds in the events.
 const KINDS: [&str; 4] = ["program", "sector", "block", "chip"];
+
+/// The names of the bus cycles in the events, in the order of their commands.
+const CYCLES: [&str; 4] = ["read", "write", "idle", "cut"];
 
 /// Watches the commands given to a station.
 #[derive(Default)]
@@ -284,7 +317,7 @@ impl Watch {
             }
             op::START => self.see_answer("start", printed[1]),
             op::STEP => self.see_step(&before.driver, &station.driver, printed),
-            op::RUN => self.see_run(printed),
+            op::RUN => self.see_run(before, station, printed),
             op::LOAD => self.see_load(station, printed),
             op::FIRST => self.see_first(command, printed),
             op::PARSE if printed[1] == 0 => self.counts.add("file: sound"),
@@ -323,6 +356,7 @@ impl Watch {
             }
             self.see_operation(before, part, elapsed >= left, command);
         }
+        self.see_completion(before, &station.device, part, command);
         let busy = u64::from(left) > elapsed;
         match command[0] {
             op::READ if busy => self.see_busy_read(printed[2]),
@@ -348,6 +382,81 @@ impl Watch {
         }
     }
 
+    /// A cycle in which an operation completes, or that comes 0 µs or 1 µs
+    /// after that.
+    fn see_completion(&mut self, before: &Before, after: &Device, part: &Part, command: &[u64]) {
+        let (elapsed, left) = (command[1], u64::from(before.device.left));
+        let just = left > 0 && elapsed == left;
+        let old = before.device.recent == 1 && elapsed == 0;
+        let young = before.device.recent == 1 && elapsed == 1;
+        let past = left > 0 && elapsed == left + 1;
+        if just {
+            let kind = KINDS[before.device.kind as usize];
+            self.counts
+                .add(&format!("cycle: {kind} completed just then"));
+            let name = CYCLES[(command[0] - op::READ) as usize];
+            self.counts
+                .add(&format!("cycle: {name} as an operation completes"));
+        }
+        let counts = &mut self.counts;
+        match command[0] {
+            op::READ => {
+                counts.add_if(past, "cycle: read one µs past the time left");
+                counts.add_if(young, "cycle: read, completion 1 µs old");
+                if just || old {
+                    self.see_inverted_read(&before.device, part);
+                }
+            }
+            op::IDLE => counts.add_if(old, "cycle: idle, completion 0 µs old"),
+            op::CUT => counts.add_if(old, "cycle: cut, completion 0 µs old"),
+            _ if old => self.see_early_write(&before.device, after, part, command),
+            _ => {}
+        }
+    }
+
+    /// A read at rest that shows all bits but 7 inverted.
+    fn see_inverted_read(&mut self, device: &Device, part: &Part) {
+        let counts = &mut self.counts;
+        let identified = device.mode == Mode::Identification;
+        counts.add("cycle: read, completion 0 µs old");
+        counts.add_if(
+            part.width == 8,
+            "cycle: read, completion 0 µs old, eight-bit part",
+        );
+        counts.add_if(
+            identified,
+            "cycle: read, completion 0 µs old, in identification",
+        );
+        counts.add_if(
+            device.stage > 0,
+            "cycle: read, completion 0 µs old, inside a sequence",
+        );
+    }
+
+    /// A write with a completion 0 µs old, by what it does.
+    fn see_early_write(&mut self, before: &Device, after: &Device, part: &Part, command: &[u64]) {
+        let (address, data) = (command[3] as u32, command[4] as u16);
+        let erase = before.stage == 6 && part.erase(address, data).is_some();
+        let left_by_command = before.stage == 2 && part.is_u1(address) && data & 0xFF == 0xF0;
+        let what = if after.left > 0 && before.stage == 3 {
+            "program started"
+        } else if after.left > 0 {
+            "erase started"
+        } else if after.stage > 0 {
+            "sequence continued"
+        } else if after.mode == Mode::Identification {
+            "identification entered"
+        } else if before.stage == 3 || erase {
+            "command ignored"
+        } else if left_by_command {
+            return;
+        } else {
+            "sequence broken"
+        };
+        self.counts
+            .add(&format!("cycle: {what}, completion 0 µs old"));
+    }
+
     /// A refused bus cycle, its grounds and their number.
     fn see_refused_cycle(&mut self, before: &Before, command: &[u64], answer: u64) {
         self.counts.add(&format!("cycle: refusal {answer}"));
@@ -357,6 +466,10 @@ impl Watch {
         self.counts.add_if(
             running(before.part, &before.device).is_some(),
             "cycle: refused while busy",
+        );
+        self.counts.add_if(
+            before.device.recent == 1 && in_range(part, &before.device),
+            "cycle: refused, completion 0 µs old",
         );
         let addressed = matches!(command[0], op::READ | op::WRITE);
         let faults = [
@@ -377,8 +490,11 @@ impl Watch {
     /// The grounds of a refusal 5 that stand alone.
     fn see_grounds(&mut self, part: &Part, device: &Device) {
         if device.left == 0 {
-            let name = "cycle: refusal 5 by stage above 6, nothing running";
-            self.counts.add(name);
+            self.counts.add(if device.stage > 6 {
+                "cycle: refusal 5 by stage above 6, nothing running"
+            } else {
+                "cycle: refusal 5 by recent above 1, nothing running"
+            });
             return;
         }
         let kind = Kind::from_number(device.kind);
@@ -403,6 +519,14 @@ impl Watch {
                 "cycle: refusal 5 by identification only",
             ),
             (device.stage > 0, "cycle: refusal 5 by a sequence only"),
+            (
+                device.recent == 1,
+                "cycle: refusal 5 by a completion 0 µs old only",
+            ),
+            (
+                device.recent > 1,
+                "cycle: refusal 5 by recent above 1, something running",
+            ),
         ];
         let holding: Vec<&str> = grounds
             .iter()
@@ -617,8 +741,17 @@ impl Watch {
         }
     }
 
-    fn see_run(&mut self, printed: &[u64]) {
+    fn see_run(&mut self, before: &Before, station: &Station, printed: &[u64]) {
         let (answer, kind, refused) = (printed[1], printed[2], printed[5]);
+        let counts = &mut self.counts;
+        counts.add_if(
+            before.device.recent == 1,
+            "run: taken up, completion 0 µs old",
+        );
+        counts.add_if(
+            kind == 1 && station.device.recent == 1 && refused == 0,
+            "run: stopped as its operation completes",
+        );
         if refused != 0 {
             self.counts.add("run: stopped by a refused cycle");
         } else if kind != 0 {
@@ -658,8 +791,8 @@ impl Watch {
         self.counts.add(match kind {
             0 => "second call: none sent",
             2 => "second call: ends with a write",
-            _ if elapsed > 0 => "second call: ends with a poll",
-            _ => "second call: ends with a scan or confirming read",
+            _ if elapsed > 0 => "second call: ends with a poll or confirming read",
+            _ => "second call: ends with a scan",
         });
         self.counts.add_if(
             begun > confirms,

@@ -227,11 +227,13 @@ pub fn load(job: &Job, cells: &mut [u16]) -> Bill {
 
 /// The bill of a finished job, from the counts and the cells it left.
 fn make_out(job: &Job, part: &Part, cells: &[u16], counts: &Counts) -> Bill {
-    let p = u64::from(job.p);
-    let cost = |kind: Kind| u64::from(part.polls(kind, job.p)) * p;
+    let time = |polls: u64, confirms: u64| {
+        polls * u64::from(job.p) + confirms * u64::from(driver::CONFIRMING_TIME)
+    };
+    let cost = |kind: Kind| time(part.polls(kind, job.p).into(), 1);
     let count = job.image.len() as u64;
     let sectors = count / u64::from(part.sector());
-    let spent = counts.polls * p;
+    let spent = time(counts.polls, counts.confirms);
     let first = job.first as usize;
     let range = &cells[first..first + job.image.len()];
     Bill {

@@ -103,7 +103,10 @@ fn level(number: u64) -> Result<bool, Misfit> {
     }
 }
 
-/// A device state from its seven numbers.
+/// How many numbers a device state has.
+pub const DEVICE_NUMBERS: usize = 8;
+
+/// A device state from its eight numbers.
 fn device_from(numbers: &[u64]) -> Result<Device, Misfit> {
     Ok(Device {
         mode: if level(numbers[0])? {
@@ -117,11 +120,12 @@ fn device_from(numbers: &[u64]) -> Result<Device, Misfit> {
         data: word(numbers[4])?,
         left: long(numbers[5])?,
         toggle: level(numbers[6])?,
+        recent: long(numbers[7])?,
     })
 }
 
-/// The seven numbers of a device state.
-pub fn device_numbers(device: &Device) -> [u64; 7] {
+/// The eight numbers of a device state.
+pub fn device_numbers(device: &Device) -> [u64; DEVICE_NUMBERS] {
     [
         u64::from(device.mode == Mode::Identification),
         device.stage.into(),
@@ -130,6 +134,7 @@ pub fn device_numbers(device: &Device) -> [u64; 7] {
         device.data.into(),
         device.left.into(),
         device.toggle.into(),
+        device.recent.into(),
     ]
 }
 
@@ -329,7 +334,7 @@ impl Station {
     /// Commands 20 to 24: the device's state and bus cycles.
     fn run_cycle(&mut self, command: &[u64]) -> Result<Option<Vec<u64>>, Misfit> {
         let (elapsed, wp, action) = match *command {
-            [op::DEVICE, _, _, _, _, _, _, _] => {
+            [op::DEVICE, _, _, _, _, _, _, _, _] => {
                 self.device = device_from(&command[1..])?;
                 return Ok(None);
             }

@@ -1,13 +1,19 @@
-//! Bus cycles: right and broken sequences, times at the edges, cuts, given
-//! states and refusals.
+//! Bus cycles: right and broken sequences, times at the edges, the moment of
+//! a completion, cuts, given states and refusals.
 
 use super::Maker;
 use crate::cycle::Mode;
 use crate::part::{Kind, Part};
-use crate::station::{device_numbers, op};
+use crate::station::{device_numbers, op, DEVICE_NUMBERS};
 
 /// Bus cycles in one case of a walk.
 const WALK: u64 = 24;
+
+/// The fresh device.
+const FRESH: [u64; DEVICE_NUMBERS] = [0; DEVICE_NUMBERS];
+
+/// Where `recent` stands in a device state.
+const RECENT: usize = 7;
 
 /// Makes so many cases on these parts in turn.
 pub fn make(maker: &mut Maker, parts: &[u64], cases: u64) {
@@ -25,6 +31,9 @@ pub fn make(maker: &mut Maker, parts: &[u64], cases: u64) {
             16 => maker.given_operation(),
             17 => maker.bad_states(),
             _ => maker.refusals(),
+        }
+        if maker.random.percent(25) {
+            maker.completion();
         }
         // The next case begins on an idle chip, sometimes without a cut.
         if maker.random.percent(70) {
@@ -91,9 +100,15 @@ impl Maker {
         self.part().value(data as u16).into()
     }
 
-    /// An elapsed time that matters: around the time left of an operation.
+    /// An elapsed time that matters: around the time left of an operation, or
+    /// none after its end.
     fn elapsed(&mut self) -> u64 {
         let left = u64::from(self.station.device.left);
+        if self.station.device.recent == 1 {
+            return self
+                .random
+                .weigh(&[(16, 0), (3, 1), (1, 2), (1, 4_294_967_295)]);
+        }
         if left == 0 {
             return self
                 .random
@@ -243,6 +258,79 @@ impl Maker {
         }
     }
 
+    /// An operation ends in a cycle that carries just its time left, and more
+    /// cycles come before any time has passed, and after 1 µs.
+    fn completion(&mut self) {
+        let wp = u64::from(self.random.percent(85));
+        if self.random.percent(30) {
+            let state = self.running_state();
+            self.send_state(&state);
+        } else {
+            let goal = self.random.weigh(&[(4, 0xA0), (6, 0x80)]);
+            self.sequence(goal, wp);
+        }
+        let left = u64::from(self.station.device.left);
+        let address = u64::from(self.station.device.address);
+        match self.random.below(8) {
+            0..=2 => self.cycle(&[op::READ, left, wp, address]),
+            3..=4 => {
+                let (address, data) = self.right_write(0);
+                self.cycle(&[op::WRITE, left, wp, address, data]);
+            }
+            5..=6 => self.cycle(&[op::IDLE, left, wp]),
+            _ => {
+                let scar = self.random.word();
+                self.cycle(&[op::CUT, left, wp, scar]);
+            }
+        }
+        for _ in 0..self.random.between(1, 3) {
+            self.at_once(wp, address);
+        }
+        let elapsed = self.random.weigh(&[(6, 1), (2, 0), (1, 2)]);
+        self.cycle(&[op::READ, elapsed, wp, address]);
+        self.cycle(&[op::READ, 0, wp, address]);
+    }
+
+    /// Cycles that carry 0 µs, which a completion 0 µs old outlives but for a
+    /// start and a cut; `address` is the completed operation's.
+    fn at_once(&mut self, wp: u64, address: u64) {
+        match self.random.below(11) {
+            0 => {
+                for near in [address, address ^ 1, 0, 1] {
+                    self.cycle(&[op::READ, 0, wp, near]);
+                }
+            }
+            1 => {
+                let other = self.address();
+                self.cycle(&[op::READ, 0, wp, other]);
+            }
+            2 => self.cycle(&[op::IDLE, 0, wp]),
+            3 => {
+                let (address, data) = self.right_write(self.station.device.stage);
+                self.cycle(&[op::WRITE, 0, wp, address, data]);
+            }
+            4 => {
+                let (address, data) = self.near_miss(self.station.device.stage);
+                self.cycle(&[op::WRITE, 0, wp, address, data]);
+            }
+            5 | 6 => {
+                self.sequence(0x90, wp);
+                for shown in [0, 1, address] {
+                    self.cycle(&[op::READ, 0, wp, shown]);
+                }
+            }
+            7..=9 => {
+                let goal = self.random.pick(&[0xA0, 0x80]);
+                let level = self.random.bit();
+                self.sequence(goal, level);
+            }
+            _ => {
+                let scar = self.random.word();
+                self.cycle(&[op::CUT, 0, wp, scar]);
+            }
+        }
+    }
+
     /// A right sequence with this third code, up to a program's or an erase's
     /// last write.
     fn sequence(&mut self, third: u64, wp: u64) {
@@ -285,18 +373,24 @@ impl Maker {
         }
     }
 
-    /// A given state at rest, with stray fields, and what follows from it.
-    fn given_rest(&mut self) {
+    /// The numbers of a valid state at rest, with stray fields.
+    fn resting_state(&mut self) -> [u64; DEVICE_NUMBERS] {
         let (mode, stage) = (self.random.bit(), self.random.below(7));
         let kind = self.random.pick(&[0, 1, 2, 3, 4, 255]);
         let (address, data) = (self.random.long(), self.random.word());
-        let toggle = self.random.bit();
-        self.send(&[op::DEVICE, mode, stage, kind, address, data, 0, toggle]);
+        let (toggle, recent) = (self.random.bit(), self.random.bit());
+        [mode, stage, kind, address, data, 0, toggle, recent]
+    }
+
+    /// A given state at rest, and what follows from it.
+    fn given_rest(&mut self) {
+        let state = self.resting_state();
+        self.send_state(&state);
         self.walk(8);
     }
 
-    /// The seven numbers of a valid state with an operation running.
-    fn running_state(&mut self) -> [u64; 7] {
+    /// The numbers of a valid state with an operation running.
+    fn running_state(&mut self) -> [u64; DEVICE_NUMBERS] {
         let part = self.part();
         let kind = loop {
             let chip = if part.cells < 10_000 { 3 } else { 1 };
@@ -322,6 +416,7 @@ impl Maker {
             data,
             left,
             self.random.bit(),
+            0,
         ]
     }
 
@@ -337,7 +432,7 @@ impl Maker {
     }
 
     /// Gives the device a state.
-    fn send_state(&mut self, state: &[u64; 7]) {
+    fn send_state(&mut self, state: &[u64; DEVICE_NUMBERS]) {
         let mut command = vec![op::DEVICE];
         command.extend(state);
         self.send(&command);
@@ -358,7 +453,7 @@ impl Maker {
                 _ => self.cycle(&[op::CUT, elapsed, wp, data]),
             }
         }
-        self.send_state(&[0; 7]);
+        self.send_state(&FRESH);
     }
 
     /// Refused cycles: one fault or several at once.
@@ -422,14 +517,13 @@ impl Maker {
             if !accepted && self.random.percent(30) {
                 self.send(&[op::HASH, 0, 2_048]);
             }
-            match self.random.below(3) {
-                0 => self.send_state(&before),
-                1 => {
-                    let state = self.running_state();
-                    self.send_state(&state);
-                }
-                _ => self.send_state(&[0; 7]),
-            }
+            let state = match self.random.below(4) {
+                0 => before,
+                1 => self.running_state(),
+                2 => self.resting_state(),
+                _ => FRESH,
+            };
+            self.send_state(&state);
         }
     }
 
@@ -452,7 +546,7 @@ impl Maker {
     }
 
     /// A state out of range: mostly by one ground alone.
-    fn bad_state(&mut self, part: &Part, cells: u64) -> [u64; 7] {
+    fn bad_state(&mut self, part: &Part, cells: u64) -> [u64; DEVICE_NUMBERS] {
         let mut state = loop {
             // The station's own part may be unknown while this is made, so
             // the state is made here for the part that the chip really has.
@@ -470,14 +564,16 @@ impl Maker {
                     self.random.below(256),
                     left,
                     self.random.bit(),
+                    0,
                 ];
             }
         };
         for _ in 0..self.random.weigh(&[(8, 1), (2, 2)]) {
             let ground = if part.width == 8 {
-                self.random.pick(&[0, 1, 2, 3, 4, 5, 6, 6, 6, 7, 7, 7])
+                self.random
+                    .pick(&[0, 1, 2, 3, 4, 5, 6, 6, 6, 7, 7, 7, 8, 9])
             } else {
-                self.random.below(7)
+                self.random.pick(&[0, 1, 2, 3, 4, 5, 6, 8, 9])
             };
             match ground {
                 0 => state[0] = 1,
@@ -499,6 +595,11 @@ impl Maker {
                 7 if part.width == 8 => {
                     state[2] = 2;
                     state[5] = self.random.between(1, 18_000);
+                }
+                8 => state[RECENT] = 1,
+                9 => {
+                    state[RECENT] = self.random.pick(&[2, 3, 255]);
+                    state[5] *= self.random.bit();
                 }
                 _ => state[1] = self.random.pick(&[7, 255]),
             }

@@ -6,6 +6,12 @@ use crate::driver;
 use crate::part::{Kind, Part};
 use crate::station::op;
 
+/// Intervals of which some divide each table time.
+const INTERVALS: [u64; 7] = [1, 2, 7, 14, 28, 500, 1_000];
+
+/// The most polls to an operation's end at such an interval.
+const FEW_POLLS: u64 = 200;
+
 /// Writes, k-th writes and starts: all commands of all parts, then random
 /// ones aimed at the refusals.
 pub fn make_calls(maker: &mut Maker, cases: u64) {
@@ -86,6 +92,12 @@ impl Command {
     /// The most polls it makes.
     fn most(&self) -> u64 {
         2 * u64::from(self.row().polls(self.kind, self.p as u32))
+    }
+
+    /// An interval at which few polls end just with the operation.
+    fn fits(&self, p: u64) -> bool {
+        let time = u64::from(self.row().time(self.kind));
+        time.is_multiple_of(p) && time / p <= FEW_POLLS
     }
 
     fn writes(&self) -> u64 {
@@ -340,6 +352,10 @@ impl Maker {
         if part == chip {
             command.address = self.address();
         }
+        if self.random.percent(40) {
+            let fitting = INTERVALS.into_iter().filter(|p| command.fits(*p));
+            command.p = self.random.pick(&fitting.collect::<Vec<u64>>());
+        }
         let wp = u64::from(self.random.percent(65));
         if self.random.percent(50) {
             let old = self.random.word();
@@ -363,7 +379,7 @@ impl Maker {
         self.send(&[op::HASH, start, start + sector]);
         // Leave nothing running, and something to erase next time.
         self.send(&[op::LENT, chip, self.cells()]);
-        self.send(&[op::DEVICE, 0, 0, 0, 0, 0, 0, 0]);
+        self.send(&[op::DEVICE, 0, 0, 0, 0, 0, 0, 0, 0]);
         if command.kind != Kind::Program {
             let (a, b, mask) = self.random_pattern(chip);
             self.send(&[op::FILL, start, start + sector, a, b, mask]);
@@ -376,17 +392,21 @@ impl Maker {
         match self.random.below(10) {
             0 => {
                 let stage = self.random.below(7);
-                let mode = self.random.bit();
-                self.send(&[op::DEVICE, mode, stage, 0, 0, 0, 0, 0]);
+                let (mode, recent) = (self.random.bit(), self.random.bit());
+                self.send(&[op::DEVICE, mode, stage, 0, 0, 0, 0, 0, recent]);
             }
             1 => {
                 let left = self.random.between(1, 14);
                 let address = self.random.below(cells);
-                self.send(&[op::DEVICE, 0, 0, 0, address, 0x55, left.min(7), 1]);
+                let recent = u64::from(self.random.percent(10));
+                self.send(&[op::DEVICE, 0, 0, 0, address, 0x55, left.min(7), 1, recent]);
             }
             2 => {
                 let stage = self.random.pick(&[7, 255]);
-                self.send(&[op::DEVICE, 0, stage, 0, 0, 0, 0, 0]);
+                self.send(&[op::DEVICE, 0, stage, 0, 0, 0, 0, 0, 0]);
+            }
+            3 => {
+                self.send(&[op::DEVICE, 0, 0, 0, 0, 0, 0, 0, 1]);
             }
             _ => {}
         }
@@ -395,9 +415,10 @@ impl Maker {
     /// Runs a part of the way, does something to the chip, and tells whether
     /// the run is over.
     fn disturbed_run(&mut self, command: &Command, wp: u64) -> bool {
-        let limit = match self.random.below(3) {
+        let limit = match self.random.below(4) {
             0 => self.random.between(1, command.writes()),
             1 => command.writes() + self.random.between(1, command.most()),
+            2 => command.writes() + command.most() / 2,
             _ => command.writes() + command.most() / 2 + self.random.below(3),
         };
         let printed = self.send(&[op::RUN, wp, limit]);

@@ -256,15 +256,20 @@ impl Maker {
         }
         for k in list {
             self.set_up(&setup);
-            if k > 0 && k <= whole.sent {
-                let earlier = self.probe(range, wp, p, k - 1).counts.confirms;
-                if self.probe(range, wp, p, k).counts.confirms > earlier {
-                    let name = "second call: ends with a confirming read";
-                    self.watch.counts.add(name);
-                }
-            }
+            let confirms = |k| self.probe(range, wp, p, k).counts.confirms;
+            let sent = k.min(whole.sent);
+            let confirming = k == sent && k > 0 && confirms(k) > confirms(k - 1);
+            let last_poll = sent < whole.sent && confirms(k + 1) > confirms(k);
             let printed = self.send(&[op::FIRST, range.first, wp, p, k]);
-            self.send(&[op::CELL, printed[6]]);
+            let (address, reply) = (printed[6], printed[8]);
+            let cell = self.send(&[op::CELL, address])[1];
+            let whole_value = reply == u64::from(self.part().value(cell as u16));
+            let counts = &mut self.watch.counts;
+            counts.add_if(confirming, "second call: ends with a confirming read");
+            counts.add_if(
+                last_poll && !whole_value,
+                "second call: ends with a poll as its operation completes",
+            );
             self.show_range(range);
         }
     }

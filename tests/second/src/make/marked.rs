@@ -1,4 +1,5 @@
-//! The marked cases of document 01 as recorded cases.
+//! The marked cases of document 01 as recorded cases, and beside them the
+//! moment in which an operation completes.
 
 use super::Maker;
 use crate::part::Part;
@@ -49,6 +50,18 @@ impl Maker {
         }
         self.send(&[op::HASH, 0, 1_048_576]);
     }
+
+    /// A program on a blank part, read as it completes, at once again, and 1 µs
+    /// later.
+    fn read_at_the_end(&mut self, number: u64, data: u64) {
+        let part = Part::get(number as u32).expect("a known part");
+        let (blank, time) = (part.blank().into(), part.program_time.into());
+        self.even_chip(number, blank);
+        self.program(1, 100, data);
+        self.send(&[op::READ, time, 1, 100]);
+        self.send(&[op::READ, 0, 1, 100]);
+        self.send(&[op::READ, 1, 1, 100]);
+    }
 }
 
 /// The cases of parts 0 to 8.
@@ -60,15 +73,18 @@ pub fn make(maker: &mut Maker, _: u64) {
     maker.even_chip(5, 0xFFFF);
     maker.send(&[op::PATCH, 100, 0x00F0]);
     maker.program(1, 100, 0x0F0F);
-    maker.send(&[op::READ, 14, 1, 100]);
+    maker.send(&[op::IDLE, 14, 1]);
+    maker.send(&[op::READ, 1, 1, 100]);
     maker.send(&[op::CELL, 100]);
 
     maker.send(&[op::MARK, 3]);
     maker.program(1, 101, 0x1234);
     maker.send(&[op::READ, 13, 1, 101]);
+    maker.send(&[op::IDLE, 1, 1]);
     maker.send(&[op::READ, 1, 1, 101]);
     maker.program(1, 102, 0x1234);
-    maker.send(&[op::READ, 14, 1, 102]);
+    maker.send(&[op::IDLE, 14, 1]);
+    maker.send(&[op::READ, 1, 1, 102]);
 
     maker.send(&[op::MARK, 4]);
     maker.program(1, 103, 0);
@@ -79,6 +95,7 @@ pub fn make(maker: &mut Maker, _: u64) {
     maker.send(&[op::READ, 0, 1, 103]);
     maker.send(&[op::READ, 0, 1, 103]);
     maker.send(&[op::IDLE, 18_000, 1]);
+    maker.send(&[op::IDLE, 1, 1]);
 
     maker.send(&[op::MARK, 5]);
     maker.writes(
@@ -124,6 +141,11 @@ pub fn make(maker: &mut Maker, _: u64) {
     maker.send(&[op::IMAGE_PATCH, 5, 0x1235]);
     maker.send(&[op::LOAD, 0, 1, 10]);
     maker.send(&[op::HASH, 0, 8_192]);
+
+    maker.send(&[op::MARK, 12]);
+    maker.read_at_the_end(5, 0x1234);
+    maker.send(&[op::MARK, 13]);
+    maker.read_at_the_end(3, 0x34);
 }
 
 /// The cases of part 9.

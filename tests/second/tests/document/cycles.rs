@@ -13,6 +13,7 @@ const BAD_STAGE: Device = Device {
     data: 0,
     left: 0,
     toggle: false,
+    recent: 0,
 };
 
 /// The answer of one cycle, which must change nothing if it is refused.
@@ -104,6 +105,7 @@ fn refusal_5_comes_exactly_then() {
             data: 0xFFFF,
             left: 0,
             toggle: true,
+            recent: 0,
         };
         assert_eq!(test(stray), 0);
         assert_eq!(test(Device { stage: 7, ..stray }), 5);
@@ -157,12 +159,22 @@ fn a_start_keeps_its_last_write_and_an_end_leaves_nothing() {
         data: 0xAB30,
         left: 18_000,
         toggle: true,
+        recent: 0,
     };
     assert_eq!(chip.device, running);
     chip.write(0x5555, 0xAA);
     assert_eq!(chip.device, running);
     chip.idle(17_999);
     assert_eq!(chip.device.left, 1);
+    chip.idle(1);
+    let recent = 1;
+    assert_eq!(
+        chip.device,
+        Device {
+            recent,
+            ..Device::default()
+        }
+    );
     chip.idle(1);
     assert_eq!(chip.device, Device::default());
 }
@@ -177,7 +189,7 @@ fn bit_6_begins_anew_with_each_start() {
     assert_eq!(chip.read(0, 5), 0x40);
     assert_eq!(chip.read(0, 6), 0x00);
     assert_eq!(chip.read(13, 1), 0x40);
-    assert_eq!(chip.read(1, 1), 0x80);
+    assert_eq!(chip.read(2, 1), 0x80);
 }
 
 #[test]
@@ -241,6 +253,7 @@ fn an_ignored_command_leaves_stray_fields_alone() {
         data: 88,
         left: 0,
         toggle: true,
+        recent: 1,
     };
     let stray = chip.device;
     chip.wp_high = false;
@@ -347,7 +360,7 @@ fn eight_bit_cells_above_255() {
     chip.cells[4_000..4_100].fill(0x12F3);
     assert_eq!(chip.read(0, 4_000), 0xF3);
     chip.program(4_000, 0x3F);
-    assert_eq!(chip.read(14, 4_000), 0x33);
+    assert_eq!(chip.read(15, 4_000), 0x33);
     assert_eq!(chip.cells[4_000], 0x33);
     chip.program(4_001, 0x30);
     chip.cut(13, 0xFF01);

@@ -163,7 +163,7 @@ fn the_last_poll_may_still_match() {
     }
     let matched = step(driver, 0x80);
     let named = Named::Read {
-        elapsed: 0,
+        elapsed: 1,
         address: 1,
     };
     assert_eq!((matched.named, matched.polls), (named, 4));

@@ -99,7 +99,8 @@ fn nothing_to_do_saves_everything() {
     let mut cells = vec![0; 4_194_304];
     let image = cells.clone();
     let bill = load(&job(9, 0, &image, 1_000), &mut cells);
-    assert_eq!(bill.saved, 4_231_168_000);
+    // 2,048 sectors at 18 polls and every cell at one, and 1 µs more for each.
+    assert_eq!(bill.saved, 2_048 * 18_001 + 4_194_304 * 1_001);
     assert_eq!((bill.spent, bill.scans), (0, 2 * 4_194_304));
 }
 
@@ -159,18 +160,21 @@ fn the_bill_is_its_formulas() {
         let n = |kind| u64::from(part.polls(kind, p));
         let programs = programs as u64;
         let polls = erases * n(Kind::Sector) + programs * n(Kind::Program);
-        let all = 2 * n(Kind::Sector) + image.len() as u64 * n(Kind::Program);
+        let confirms = erases + programs;
+        let spent = polls * u64::from(p) + confirms;
+        let each = |kind| n(kind) * u64::from(p) + 1;
+        let all = 2 * each(Kind::Sector) + image.len() as u64 * each(Kind::Program);
         let sum = image
             .iter()
             .fold(0u16, |sum, value| sum.wrapping_add(*value));
         let wanted = Bill {
-            saved: (all - polls) * u64::from(p),
-            spent: polls * u64::from(p),
+            saved: all - spent,
+            spent,
             erases,
             programs,
             polls,
             scans: (image.len() + unerased) as u64,
-            confirms: erases + programs,
+            confirms,
             sum,
             answer: 0,
         };
@@ -247,7 +251,7 @@ fn second_calls_of_case_10_cycle_by_cycle() {
     let (started, cell) = call(2_058);
     assert_eq!((started.last, started.reply), (write(5, 0x1234), 0));
     assert_eq!((started.counts.programs, cell), (1, 0xFFFF));
-    // Two polls at 10 µs: busy, then done, and the confirming read.
+    // Two polls at 10 µs: busy, then done, and the confirming read 1 µs later.
     let (first, cell) = call(2_059);
     assert_eq!((first.last, first.reply), (read(10, 5), 0x00C0));
     assert_eq!(
@@ -260,12 +264,13 @@ fn second_calls_of_case_10_cycle_by_cycle() {
         (read(10, 5), 0x1234, 0x1234)
     );
     let (confirm, _) = call(2_061);
-    assert_eq!((confirm.last, confirm.reply), (read(0, 5), 0x1234));
+    assert_eq!((confirm.last, confirm.reply), (read(1, 5), 0x1234));
     assert_eq!((confirm.counts.confirms, confirm.counts.scans), (1, 2_054));
+    assert_eq!((second.counts.time, confirm.counts.time), (20, 21));
     assert_eq!(call(2_062).0.last, read(0, 6));
     let (all, _) = call(u64::MAX);
     assert_eq!((all.sent, all.last), (4_103, read(0, 2_047)));
-    assert_eq!(all.counts.time, 20);
+    assert_eq!(all.counts.time, 21);
 }
 
 #[test]

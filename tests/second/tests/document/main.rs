@@ -1,6 +1,7 @@
 //! What document 01 says, as tests of this program.
 
 mod chip;
+mod completions;
 mod cycles;
 mod drivers;
 mod files;

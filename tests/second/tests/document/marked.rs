@@ -1,4 +1,5 @@
-//! The eleven marked cases of document 01.
+//! The eleven marked cases of document 01, with the figures of document 02's
+//! first wish in cases 10 and 11.
 
 use crate::chip::Chip;
 use second::bill;
@@ -39,10 +40,13 @@ fn case_3_program_time_on_part_5() {
     chip.program(100, 0x1234);
     assert_eq!(chip.read(13, 100), 0x00C0);
     assert!(chip.busy());
+    chip.idle(1);
+    assert!(!chip.busy());
     assert_eq!(chip.read(1, 100), 0x1234);
     chip.program(101, 0x1234);
-    assert_eq!(chip.read(14, 101), 0x1234);
+    chip.idle(14);
     assert!(!chip.busy());
+    assert_eq!(chip.read(1, 101), 0x1234);
 }
 
 #[test]
@@ -145,7 +149,7 @@ fn case_10_as_bill_prints_it() {
         bytes.extend(value.to_le_bytes());
     }
     bytes.extend([0, 0, 1, 0, 0, 0, 0, 0, 10, 0, 0, 0, 0, 16, 0, 0]);
-    let printed = "saved 58940\nspent 20\nerases 0\nprograms 1\npolls 2\nscans 4096\n\
+    let printed = "saved 60988\nspent 21\nerases 0\nprograms 1\npolls 2\nscans 4096\n\
                    confirms 1\nsum 2613\nanswer 0\n";
     assert_eq!(bill::print(&bytes), printed);
 }
@@ -154,11 +158,11 @@ fn case_10_as_bill_prints_it() {
 fn case_11_on_the_cells_case_10_left() {
     let mut cells = vec![0xFFFF; 8_192];
     let first = load(&job(&image(0x1234)), &mut cells);
-    assert_eq!((first.saved, first.programs), (58_940, 1));
+    assert_eq!((first.saved, first.programs), (60_988, 1));
     let second = load(&job(&image(0x1235)), &mut cells);
     let wanted = Bill {
-        saved: 40_940,
-        spent: 18_020,
+        saved: 42_987,
+        spent: 18_022,
         erases: 1,
         programs: 1,
         polls: 1_802,
