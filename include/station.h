@@ -232,6 +232,7 @@ struct station_device {
     uint16_t data;
     uint32_t left;   /* microseconds until it ends; 0: nothing runs */
     uint32_t toggle; /* what bit 6 shows at the next read while it runs: 0 or 1 */
+    uint32_t recent; /* 1 while a completion is 0 microseconds old, else 0 */
 };
 
 /* A reply: STATION_TAKEN or the refusal, the value read (0 but for a read), the device afterwards. */
@@ -241,13 +242,15 @@ struct station_reply {
     struct station_device device;
 };
 
-/* A fresh device: read mode, no sequence begun, nothing running. */
+/* A fresh device: read mode, no sequence begun, nothing running, no completion 0 microseconds old. */
 struct station_device station_fresh(void);
 
 /* One bus cycle on all n cells of a part, elapsed microseconds after the last one, at a WP# level:
    a read, a write, time alone, or a power cut, which leaves the scar on the cells of an operation
-   that it cuts short. Refused with STATION_NO_PART, STATION_WRONG_CELLS, STATION_BAD_STATE; then a
-   read and a write with STATION_NO_ADDRESS, and a write with STATION_DATA_TOO_LARGE. */
+   that it cuts short. At the moment of a completion a read shows all the part's bits but 7 inverted,
+   the whole value 1 microsecond later. Refused with STATION_NO_PART, STATION_WRONG_CELLS,
+   STATION_BAD_STATE; then a read and a write with STATION_NO_ADDRESS, and a write with
+   STATION_DATA_TOO_LARGE. */
 struct station_reply station_read(uint32_t part, uint16_t *cells, size_t n,
                                   struct station_device device, uint32_t elapsed, uint32_t wp,
                                   uint32_t address);

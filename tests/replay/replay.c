@@ -134,12 +134,13 @@ static void put_device(const struct station_device *device)
     put(device->data);
     put(device->left);
     put(device->toggle);
+    put(device->recent);
 }
 
 static bool set_device(struct held *held, const uint64_t *n)
 {
     const struct station_device device = {(uint32_t)n[1], (uint32_t)n[2], (uint32_t)n[3], (uint32_t)n[4],
-                                          (uint16_t)n[5], (uint32_t)n[6], (uint32_t)n[7]};
+                                          (uint16_t)n[5], (uint32_t)n[6], (uint32_t)n[7], (uint32_t)n[8]};
     held->device = device;
     return true;
 }
@@ -496,7 +497,7 @@ static const struct {
     int follow;
     command act;
 } commands[] = {{0, 1, mark},         {10, 5, new_chip},   {11, 5, fill_cells}, {12, 2, set_cell},   {13, 1, show_cell},
-                {14, 2, hash_cells},  {15, 2, lend},       {20, 7, set_device}, {21, 3, read_cycle}, {22, 4, write_cycle},
+                {14, 2, hash_cells},  {15, 2, lend},       {20, 8, set_device}, {21, 3, read_cycle}, {22, 4, write_cycle},
                 {23, 2, idle_cycle},  {24, 3, cut_cycle},  {30, 4, all_writes}, {31, 5, one_write},  {32, 5, start},
                 {33, 7, set_driver},  {34, 1, step},       {35, 2, run},        {40, 2, figure},     {50, 4, new_image},
                 {51, 5, fill_image},  {52, 2, set_value},  {53, 4, copy_cells}, {54, 3, load},       {55, 4, load_first},
