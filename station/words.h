@@ -10,7 +10,7 @@
 /* Room for a number or a time in words. */
 #define WORD 48
 
-/* A number with its thousands apart: 58,940. Gives the text back. */
+/* A number with its thousands apart: 60,988. Gives the text back. */
 const char *grouped(uint64_t number, char text[WORD]);
 
 /* A time, given in microseconds, in the unit that suits it: 20 µs, 58.9 ms, 12.35 s, 4 min 12 s. */
