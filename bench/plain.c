@@ -8,12 +8,13 @@
 #include <stdlib.h>
 #include <string.h>
 
-enum { CELLS = 1048576, SECTOR = 2048, P = 10, PROGRAM_TIME = 28, ERASE_TIME = 36000 };
+enum { CELLS = 1048576, SECTOR = 2048, P = 10, PROGRAM_TIME = 28, ERASE_TIME = 36000, CONFIRMING_TIME = 1, ALL_BUT_7 = 0xff7f };
 
 static uint16_t cells[CELLS], image[CELLS];
 
-/* The chip beside its cells: the stage of the write sequence, and the operation that runs while time is left. */
-static unsigned stage, left, erasing, toggle;
+/* The chip beside its cells: the stage of the write sequence, the operation that runs while time is left, and whether one has
+   completed 0 microseconds ago. */
+static unsigned stage, left, erasing, toggle, recent;
 static uint32_t at;
 static uint16_t word;
 
@@ -33,6 +34,7 @@ static void pass(unsigned elapsed)
         left -= elapsed;
         return;
     }
+    recent = elapsed == left;
     left = 0;
     if (erasing)
         memset(cells + (at & ~(SECTOR - 1u)), 0xff, SECTOR * sizeof *cells);
@@ -42,7 +44,7 @@ static void pass(unsigned elapsed)
 
 static void begin(unsigned erase, unsigned time, uint32_t a, uint16_t x)
 {
-    stage = 0, left = time, erasing = erase, toggle = 1, at = a, word = x;
+    stage = 0, left = time, erasing = erase, toggle = 1, recent = 0, at = a, word = x;
 }
 
 static void write_cycle(uint32_t a, uint16_t x)
@@ -67,8 +69,10 @@ static uint16_t read_cycle(unsigned elapsed, uint32_t a)
 {
     if (left)
         pass(elapsed);
+    else if (elapsed)
+        recent = 0;
     if (!left)
-        return cells[a];
+        return (uint16_t)(cells[a] ^ (recent ? ALL_BUT_7 : 0));
     toggle ^= 1;
     return (uint16_t)((erasing ? 0 : ~word & 0x80) | (toggle ? 0 : 0x40));
 }
@@ -79,7 +83,7 @@ static void poll(uint32_t a, uint16_t wanted)
         polls++;
     while ((read_cycle(P, a) ^ wanted) & 0x80);
     confirms++;
-    if (read_cycle(0, a) != wanted)
+    if (read_cycle(CONFIRMING_TIME, a) != wanted)
         exit(12);
 }
 
