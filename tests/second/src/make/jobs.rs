@@ -256,22 +256,27 @@ impl Maker {
         }
         for k in list {
             self.set_up(&setup);
-            let confirms = |k| self.probe(range, wp, p, k).counts.confirms;
-            let sent = k.min(whole.sent);
-            let confirming = k == sent && k > 0 && confirms(k) > confirms(k - 1);
-            let last_poll = sent < whole.sent && confirms(k + 1) > confirms(k);
-            let printed = self.send(&[op::FIRST, range.first, wp, p, k]);
-            let (address, reply) = (printed[6], printed[8]);
-            let cell = self.send(&[op::CELL, address])[1];
-            let whole_value = reply == u64::from(self.part().value(cell as u16));
-            let counts = &mut self.watch.counts;
-            counts.add_if(confirming, "second call: ends with a confirming read");
-            counts.add_if(
-                last_poll && !whole_value,
-                "second call: ends with a poll as its operation completes",
-            );
+            self.second_call(range, wp, p, k, whole.sent);
             self.show_range(range);
         }
+    }
+
+    /// One second call of a job that has `most` cycles: counts a confirming
+    /// read at its end, and a last poll that does not show the whole value.
+    fn second_call(&mut self, range: Range, wp: u64, p: u64, k: u64, most: u64) {
+        let confirms = |k| self.probe(range, wp, p, k).counts.confirms;
+        let confirming = k > 0 && k <= most && confirms(k) > confirms(k - 1);
+        let last_poll = k < most && confirms(k + 1) > confirms(k);
+        let printed = self.send(&[op::FIRST, range.first, wp, p, k]);
+        let (address, reply) = (printed[6], printed[8]);
+        let cell = self.send(&[op::CELL, address])[1];
+        let whole_value = reply == u64::from(self.part().value(cell as u16));
+        let counts = &mut self.watch.counts;
+        counts.add_if(confirming, "second call: ends with a confirming read");
+        counts.add_if(
+            last_poll && !whole_value,
+            "second call: ends with a poll as its operation completes",
+        );
     }
 
     /// Jobs and second calls with one fault or several at once.
