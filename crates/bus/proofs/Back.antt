@@ -27,21 +27,25 @@ level-back true = refl
 level-back false = refl
 
 -- ---- the device
-device-mode : (m : Mode) (k a x l : ℕ) (t : Bool) (s : ℕ)
-    → deviceOf (deviceNumbers (device (core m (operation k a x l t)) s)) ≡ device (core m (operation k a x l t)) s
+device-mode : (m : Mode) (k a x l : ℕ) (t n : Bool) (s : ℕ)
+    → deviceOf (deviceNumbers (device (core m (operation k a x l t) n) s)) ≡ device (core m (operation k a x l t) n) s
 unfolding deviceOf
-device-mode ReadMode k a x l true s = refl
-device-mode ReadMode k a x l false s = refl
-device-mode Identification k a x l true s = refl
-device-mode Identification k a x l false s = refl
+device-mode ReadMode k a x l true true s = refl
+device-mode ReadMode k a x l true false s = refl
+device-mode ReadMode k a x l false true s = refl
+device-mode ReadMode k a x l false false s = refl
+device-mode Identification k a x l true true s = refl
+device-mode Identification k a x l true false s = refl
+device-mode Identification k a x l false true s = refl
+device-mode Identification k a x l false false s = refl
 
 -- the numbers of a device are read as that device
 pub device-back : (d : Device) → deviceOf (deviceNumbers d) ≡ d
 device-back d =
     let o = d .core .running in
-    device-mode (d .core .mode) (o .kind) (o .address) (o .«data») (o .left) (o .toggle) (d .stage)
+    device-mode (d .core .mode) (o .kind) (o .address) (o .«data») (o .left) (o .toggle) (d .core .recent) (d .stage)
 
--- a mode or a toggle above 1 is no state
+-- a mode, a toggle or a recent completion above 1 is no state
 pub bad-mode : (n : DeviceNumbers) → 1 < n .mode → deviceOf n ≡ noState
 unfolding deviceOf
 bad-mode n h = simp (lt-ltb _ _ h)
@@ -49,6 +53,10 @@ bad-mode n h = simp (lt-ltb _ _ h)
 pub bad-toggle : (n : DeviceNumbers) → n .mode ≤ 1 → 1 < n .toggle → deviceOf n ≡ noState
 unfolding deviceOf
 bad-toggle n m h = simp (le-ltb _ _ m, lt-ltb _ _ h)
+
+pub bad-recent : (n : DeviceNumbers) → n .mode ≤ 1 → n .toggle ≤ 1 → 1 < n .recent → deviceOf n ≡ noState
+unfolding deviceOf
+bad-recent n m t h = simp (le-ltb _ _ m, le-ltb _ _ t, lt-ltb _ _ h)
 
 -- numbers that are no state: 1 and 2 come first, then 5
 pub no-device : (part lent : ℕ) (n : DeviceNumbers) (a : Action) → deviceOf n ≡ noState

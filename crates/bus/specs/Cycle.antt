@@ -37,7 +37,7 @@ abbrev pub modeAt : ℕ → Mode
 modeAt n = pick (eqb n READ-MODE) ReadMode Identification
 
 -- ---- the device
--- what a bit shows, or a level
+-- what a bit shows, a level, or whether a completion is recent
 abbrev pub bitNumber : Bool → ℕ
 bitNumber t = pick t 1 0
 
@@ -52,6 +52,7 @@ deviceNumbers d =
       «data» = d .core .running .«data»;
       left = d .core .running .left;
       toggle = bitNumber (d .core .running .toggle);
+      recent = bitNumber (d .core .recent);
     }
 
 -- a stage past the seven of a write sequence
@@ -62,12 +63,13 @@ NO-STAGE = 7
 abbrev pub noState : Device
 noState = device freshCore NO-STAGE
 
--- a mode past the last or a toggle above 1 is no state
+-- a mode past the last, or a toggle or a recent completion above 1, is no state
 unfoldable pub deviceOf : DeviceNumbers → Device
 deviceOf n =
     noState when ltb IDENTIFICATION (n .mode)
     else noState when ltb 1 (n .toggle)
-    else device (core (modeAt (n .mode)) (operation (n .kind) (n .address) (n .«data») (n .left) (eqb (n .toggle) 1))) (n .stage)
+    else noState when ltb 1 (n .recent)
+    else device (core (modeAt (n .mode)) (operation (n .kind) (n .address) (n .«data») (n .left) (eqb (n .toggle) 1)) (eqb (n .recent) 1)) (n .stage)
 
 -- ---- a cycle
 -- a refused cycle hands back the numbers as they came

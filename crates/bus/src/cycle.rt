@@ -17,7 +17,7 @@ const IDENTIFICATION: u32 = 1;
 // A stage past the seven of a write sequence.
 const NO_STAGE: u32 = 7;
 
-// A device as numbers: mode 0 read, 1 identification; toggle 0 or 1.
+// A device as numbers: mode 0 read, 1 identification; toggle 0 or 1; recent 1 while a completion is 0 µs old, else 0.
 #[repr(C)]
 pub struct DeviceNumbers {
     pub mode: u32,
@@ -27,6 +27,7 @@ pub struct DeviceNumbers {
     pub data: u16,
     pub left: u32,
     pub toggle: u32,
+    pub recent: u32,
 }
 
 // The answer, 0 or a refusal; the value read; the device afterwards.
@@ -57,7 +58,7 @@ fn mode_at(n: u32) -> Mode
     Mode::Identification
 }
 
-// The number of what a bit shows, or of a level.
+// The number of what a bit shows, of a level, or of whether a completion is recent.
 fn bit_number(bit: bool) -> u32
     ensures { λ r. ⌜ r ≡ bitNumber bit ⌝ }
 {
@@ -94,6 +95,7 @@ fn device_numbers(d: Device) -> DeviceNumbers
         data: o.data,
         left: o.left,
         toggle: bit_number(o.toggle),
+        recent: bit_number(core.recent),
     }
 }
 
@@ -103,10 +105,14 @@ fn device_of(n: DeviceNumbers) -> Device
 {
     let mode = n.mode;
     let toggle = n.toggle;
+    let recent = n.recent;
     if IDENTIFICATION < mode {
         return no_state();
     }
     if 1 < toggle {
+        return no_state();
+    }
+    if 1 < recent {
         return no_state();
     }
     let running = Operation {
@@ -119,6 +125,7 @@ fn device_of(n: DeviceNumbers) -> Device
     let core = Core {
         mode: mode_at(mode),
         running,
+        recent: recent == 1,
     };
     Device {
         core,

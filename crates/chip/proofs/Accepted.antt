@@ -13,7 +13,7 @@ use Rattle.parts.specs.Time.{hasCommand, timeOf}
 use Rattle.parts.specs.declared.span.Span.{Span}
 use Rattle.parts.specs.declared.table.Row.{Row}
 use Rattle.parts.proofs.Every.{apart, both, unless, given, pick-same, split}
-use Rattle.parts.proofs.Sound.{width-most, device-word}
+use Rattle.parts.proofs.Sound.{width-least, width-most, device-word}
 use Rattle.parts.proofs.Ranges.{sector-fits, block-fits}
 use Rattle.parts.proofs.Refused.{zero-left, none-first}
 use Rattle.commands.specs.declared.effect.Mode.{Mode}
@@ -23,7 +23,7 @@ use Rattle.chip.specs.declared.device.Core.{Core}
 use Rattle.chip.specs.declared.device.Device.{Device}
 use Rattle.chip.specs.declared.cycle.Action.{Action}
 use Rattle.chip.specs.declared.cycle.Action.the-variants.{Read, Write}
-use Rattle.chip.specs.Device.{device, busy, reads, validOperation, coreInRange, stageInRange, deviceInRange}
+use Rattle.chip.specs.Device.{agedBy, device, busy, reads, validOperation, coreInRange, stageInRange, deviceInRange}
 use Rattle.chip.specs.Operation.{cellsOf}
 use Rattle.chip.specs.Cycle.{actionRefusal, cycleRefusal}
 use Rattle.chip.specs.Needs.{InWords, RunsInside}
@@ -62,6 +62,7 @@ pub record Valid (r : Row) (k : Core) : Type 0 where
   pub there : k .running .address < r .cells
   pub fits : fitsIn (r .width) (k .running .«data») ≡ true
   pub mode : k .mode ≡ ReadMode
+  pub old : k .recent ≡ false
 
 pub read-mode : (m : Mode) → reads m ≡ true → m ≡ ReadMode
 read-mode ReadMode e = refl
@@ -70,15 +71,17 @@ read-mode Identification e = apart e
 pub busy-valid : (r : Row) (k : Core) → coreInRange r k ≡ true → busy k ≡ true → Valid r k
 unfolding coreInRange validOperation
 busy-valid r k e b =
-    let g = both _ _ (given (busy k) (pick (reads (k .mode)) (validOperation r (k .running)) false) b e) in
+    let f = unless (k .recent) (pick (reads (k .mode)) (validOperation r (k .running)) false)
+    (given (busy k) (pick (k .recent) false (pick (reads (k .mode)) (validOperation r (k .running)) false)) b e) in
+    let g = both _ _ (f .1) in
     let h = both _ _ (g .1) in
     let i = unless _ _ (h .1) in
     let j = both _ _ (i .1) in
-    record { command = h .0; time = ltb-false _ _ (i .0); there = ltb-true _ _ (j .0); fits = j .1; mode = read-mode (k .mode) (g .0) }
+    record { command = h .0; time = ltb-false _ _ (i .0); there = ltb-true _ _ (j .0); fits = j .1; mode = read-mode (k .mode) (g .0); old = f .0 }
 
 pub valid-range : (r : Row) (k : Core) → Valid r k → coreInRange r k ≡ true
 unfolding coreInRange validOperation
-valid-range r k v = simp (v .mode, v .command, le-ltb _ _ (v .time), lt-ltb _ _ (v .there), v .fits, pick-same)
+valid-range r k v = simp (v .old, v .mode, v .command, le-ltb _ _ (v .time), lt-ltb _ _ (v .there), v .fits, pick-same)
 
 -- at rest any core is in range
 pub rest-range : (r : Row) (k : Core) → busy k ≡ false → coreInRange r k ≡ true
@@ -103,13 +106,18 @@ pub stage-rests : (k : Core) (s : ℕ) → busy k ≡ false → s ≤ 6 → stag
 unfolding stageInRange
 stage-rests k s b h = simp (b, le-leb s 6 h)
 
+-- time at rest leaves the stage in range
+pub stage-ages : (k : Core) (s e : ℕ) → stageInRange k s ≡ true → stageInRange (agedBy k e) s ≡ true
+unfolding stageInRange
+stage-ages k s e i = i
+
 pub stage-busy : (k : Core) (s : ℕ) → stageInRange k s ≡ true → busy k ≡ true → s ≡ 0
 unfolding stageInRange
 stage-busy k s i b = eqb-true s 0 (rw b at i)
 
 -- ---- a known part
 pub in-words : (n : ℕ) → partRefusal n ≡ 0 → InWords (rowOf n)
-in-words n k = record { values = width-most n k; identity = device-word n k }
+in-words n k = record { values = width-most n k; bit-7 = width-least n k; identity = device-word n k }
 
 -- the cells of an operation lie among the part's
 pub inside-cells : (n : ℕ) → partRefusal n ≡ 0 → (o : Operation) → hasCommand (rowOf n) (o .kind) ≡ true → o .address < rowOf n .cells

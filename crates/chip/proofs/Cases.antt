@@ -1,13 +1,14 @@
 -- What a cycle does, case by case: callers cite these laws and not the definition's text.
 use Prim.Native.Nat.{ℕ, _+_, _-_, _*_, _/_, _%_, _^_, _≤_, _<_}
-use mathlib.Core.Path.{_≡_, refl, _∙_}
+use mathlib.Core.Path.{_≡_, refl, ap, _∙_}
 use mathlib.Core.Bool.{Bool, true, false}
 use mathlib.Core.List.{List}
 use native.Mathlib.Omega.{arith}
 use borrow.Author.Tests.{lt-ltb, le-ltb, ne-eqb}
-use lib.Dec.{eqb}
+use lib.Dec.{eqb, ltb}
 use lib.ListN.{length, getD}
-use lib.Pow.{pow-mono}
+use lib.Pow.{pow-mono, pow-pos}
+use lib.Bits.{xor-lt}
 use Rattle.parts.specs.Pick.{pick}
 use Rattle.parts.specs.Width.{valueOf, fitsIn}
 use Rattle.parts.specs.Table.{rowOf, partRefusal}
@@ -23,14 +24,14 @@ use Rattle.chip.specs.declared.cycle.Action.{Action}
 use Rattle.chip.specs.declared.cycle.Action.the-variants.{Read, Write, Idle, Cut}
 use Rattle.chip.specs.declared.cycle.Cycle.{Cycle}
 use Rattle.chip.specs.declared.cycle.Shown.{Shown}
-use Rattle.chip.specs.Device.{withLeft, toggled, withRunning, atRest, busy, device, coreInRange, coreIdle}
+use Rattle.chip.specs.Device.{withLeft, toggled, withRunning, withRecent, atRest, agedBy, busy, device, coreInRange, coreIdle}
 use Rattle.chip.specs.Operation.{completeOn}
 use Rattle.commands.specs.Commands.{effectOf}
 use Rattle.chip.specs.Sequence.{afterEffect, writtenOf}
-use Rattle.chip.specs.Cycle.{Chip, chip, cycle, outcome, reply, settled, settledOf, status, shownOf, readOf, Outcome, actedOf, actionRefusal, cycleRefusal, acceptedOf, cycleOf}
+use Rattle.chip.specs.Cycle.{Chip, chip, cycle, outcome, reply, settled, settledOf, status, shownOf, outputsOf, readOf, Outcome, actedOf, actionRefusal, cycleRefusal, acceptedOf, cycleOf}
 use Rattle.chip.specs.Trace.{after, effectStarts, startedBy}
 use Rattle.chip.proofs.Accepted.{Accepted, accepting, Valid, valid-range, rest-range, in-range, stage-none, stage-rests}
-use Rattle.chip.proofs.Idle.{idle-rests, idle-reads, idle-range}
+use Rattle.chip.proofs.Idle.{some-time-ages, idle-rests, idle-old, idle-reads, idle-ages}
 
 -- ---- accepted or refused
 pub accepted-cycle : (part : ℕ) (cells : List ℕ) (d : Device) (c : Cycle) → Accepted part (length cells) d (c .action) → cycleOf part cells d c ≡ acceptedOf (rowOf part) cells d c
@@ -55,13 +56,17 @@ acted-word : (part : ℕ) → partRefusal part ≡ 0 → (h : Chip) (wp : Bool) 
 unfolding readOf
 acted-word part known h wp (Read a) =
     split (λ (s : Shown). s .value < 2 ^ 16) (busy (h .device .core)) _ _
-    (λ _. busy-word (eqb (h .device .core .running .kind) 0) (h .device .core .running .toggle)) (λ _. rest-word (h .device .core .mode))
+    (λ _. busy-word (eqb (h .device .core .running .kind) 0) (h .device .core .running .toggle)) (λ _. outputs-word (h .device .core .recent) (rest-word (h .device .core .mode)))
   where
     busy-word : (z t : Bool) → pick z (1 - h .device .core .running .«data» / 128 % 2) 0 * 128 + pick t 1 0 * 64 < 2 ^ 16
     busy-word true true = omega arith
     busy-word true false = omega arith
     busy-word false true = omega arith
     busy-word false false = omega arith
+
+    outputs-word : (n : Bool) {v : ℕ} → v < 2 ^ 16 → outputsOf (rowOf part .width) n v < 2 ^ 16
+    outputs-word true l = xor-lt 16 _ _ l (omega (arith, pow-mono (width-most part known), pow-pos (rowOf part .width)))
+    outputs-word false l = l
 
     rest-word : (m : Mode) → shownOf (rowOf part) (h .cells) m a < 2 ^ 16
     rest-word ReadMode = omega (arith, value-lt (rowOf part .width) (getD (h .cells) a 0), pow-mono (width-most part known))
@@ -78,7 +83,7 @@ shown-word part known cells d c =
 
 -- ---- time
 module _ (r : Row) (cells : List ℕ) (k : Core) (e : ℕ) where
-  pub rests : busy k ≡ false → settledOf r cells k e ≡ settled cells k
+  pub rests : busy k ≡ false → settledOf r cells k e ≡ settled cells (agedBy k e)
   unfolding settledOf
   rests b = simp b
 
@@ -86,7 +91,7 @@ module _ (r : Row) (cells : List ℕ) (k : Core) (e : ℕ) where
   unfolding settledOf
   runs-on l = simp (lt-ltb 0 (k .running .left) (omega arith), lt-ltb e (k .running .left) l)
 
-  completes : 0 < k .running .left → k .running .left ≤ e → settledOf r cells k e ≡ settled (completeOn r (k .running) cells) (atRest k)
+  pub completes : 0 < k .running .left → k .running .left ≤ e → settledOf r cells k e ≡ settled (completeOn r (k .running) cells) (atRest k (eqb e (k .running .left)))
   unfolding settledOf
   completes s l = simp (lt-ltb 0 (k .running .left) s, le-ltb e (k .running .left) l)
 
@@ -100,12 +105,29 @@ module _ (part : ℕ) (cells : List ℕ) (known : partRefusal part ≡ 0) (whole
       accepted-cycle part cells (device k 0) (cycle e wp (Read a))
       (record { known = known; whole = whole; state = in-range (rowOf part) k 0 (stage-none k) i; reach = simp (lt-ltb a (rowOf part .cells) there) })
 
-  -- of an idle device it shows the cell's value and leaves the device
+  -- at rest in read mode it shows the cell's value, as the outputs are once its time has passed
+  pub read-rests : (k : Core) (e : ℕ) (wp : Bool) → busy k ≡ false → k .mode ≡ ReadMode
+      → cycleOf part cells (device k 0) (cycle e wp (Read a))
+      ≡ outcome cells (outputsOf (rowOf part .width) (agedBy k e .recent) (valueOf (rowOf part .width) (getD cells a 0))) (device (agedBy k e) 0)
+  unfolding acceptedOf readOf
+  read-rests k e wp b m = read-accepted k e wp (rest-range (rowOf part) k b) ∙ rw (rests (rowOf part) cells k e b) (simp (b, m))
+
+  -- so of an idle device the value; and the device stays as it is
   pub read-idle : (k : Core) (e : ℕ) (wp : Bool) → coreIdle k ≡ true
       → cycleOf part cells (device k 0) (cycle e wp (Read a)) ≡ outcome cells (valueOf (rowOf part .width) (getD cells a 0)) (device k 0)
-  unfolding acceptedOf readOf
   read-idle k e wp i =
-      read-accepted k e wp (idle-range k i (rowOf part)) ∙ rw (rests (rowOf part) cells k e (idle-rests k i)) (simp (idle-rests k i, idle-reads k i))
+      let w = rowOf part .width in
+      let v = valueOf w (getD cells a 0) in
+      read-rests k e wp (idle-rests k i) (idle-reads k i)
+      ∙ (ap (λ (n : Core). outcome cells (outputsOf w (n .recent) v) (device n 0)) (idle-ages k i e)
+      ∙ ap (λ (n : Bool). outcome cells (outputsOf w n v) (device k 0)) (idle-old k i))
+
+  -- and after some time the value, whatever completed when; and no completion is 0 µs old then
+  pub read-later : (k : Core) (e : ℕ) (wp : Bool) → busy k ≡ false → k .mode ≡ ReadMode → 0 < e
+      → cycleOf part cells (device k 0) (cycle e wp (Read a)) ≡ outcome cells (valueOf (rowOf part .width) (getD cells a 0)) (device (withRecent k false) 0)
+  read-later k e wp b m l =
+      let w = rowOf part .width in
+      read-rests k e wp b m ∙ ap (λ (n : Core). outcome cells (outputsOf w (n .recent) (valueOf w (getD cells a 0))) (device n 0)) (some-time-ages k e l)
 
   module _ (k : Core) (e : ℕ) (wp : Bool) (v : Valid (rowOf part) k) where
     -- while an operation runs on
@@ -116,10 +138,12 @@ module _ (part : ℕ) (cells : List ℕ) (known : partRefusal part ≡ 0) (whole
     read-busy l =
         read-accepted k e wp (valid-range (rowOf part) k v) ∙ rw (runs-on (rowOf part) cells k e l) (simp (lt-ltb 0 (k .running .left - e) (omega arith)))
 
-    -- as, or after, it has completed
+    -- as, or after, it has completed: the value, as the outputs are 0 µs after the completion or later
     pub read-done : 0 < k .running .left → k .running .left ≤ e
         → cycleOf part cells (device k 0) (cycle e wp (Read a))
-        ≡ outcome (completeOn (rowOf part) (k .running) cells) (valueOf (rowOf part .width) (getD (completeOn (rowOf part) (k .running) cells) a 0)) (device (atRest k) 0)
+        ≡ outcome (completeOn (rowOf part) (k .running) cells)
+        (outputsOf (rowOf part .width) (eqb e (k .running .left)) (valueOf (rowOf part .width) (getD (completeOn (rowOf part) (k .running) cells) a 0)))
+        (device (atRest k (eqb e (k .running .left))) 0)
     unfolding acceptedOf readOf
     read-done s l =
         read-accepted k e wp (valid-range (rowOf part) k v) ∙ rw (completes (rowOf part) cells k e s l, v .mode)
@@ -132,7 +156,7 @@ module _ (part : ℕ) (cells : List ℕ) (known : partRefusal part ≡ 0) (whole
         record { known = known; whole = whole; state = in-range (rowOf part) k s (stage-rests k s b le) (rest-range (rowOf part) k b); reach = simp (lt-ltb a (rowOf part .cells) there, fits) }
 
     -- what it leaves, and what it starts, by its effect
-    pub write-leaves : after part (chip cells (device k s)) (cycle e wp (Write a x)) ≡ chip cells (afterEffect (rowOf part) k wp a x (effectOf (rowOf part) s a x))
+    pub write-leaves : after part (chip cells (device k s)) (cycle e wp (Write a x)) ≡ chip cells (afterEffect (rowOf part) (agedBy k e) wp a x (effectOf (rowOf part) s a x))
     unfolding after acceptedOf writtenOf
     write-leaves = rw (accepted-cycle part cells (device k s) (cycle e wp (Write a x)) write-accepted, rests (rowOf part) cells k e b, b)
 

@@ -1,8 +1,9 @@
--- An idle device: no sequence begun and an idle core. Callers cite these laws, so that what idle asks of a core can grow.
-use Prim.Native.Nat.{ℕ}
-use mathlib.Core.Path.{_≡_, refl, ap}
+-- Time at rest, and an idle device: no sequence begun and an idle core. Callers cite these laws, so that what idle asks of a core can grow.
+use Prim.Native.Nat.{ℕ, zero, suc, _<_}
+use mathlib.Core.Path.{_≡_, refl, sym, ap, _∙_}
 use mathlib.Core.Bool.{true, false}
-use borrow.Author.Tests.{eqb-true}
+use native.Mathlib.Omega.{arith}
+use borrow.Author.Tests.{lt-ltb, ne-eqb, eqb-true}
 use lib.Dec.{eqb}
 use Rattle.parts.specs.declared.table.Row.{Row}
 use Rattle.parts.proofs.Every.{both, unless}
@@ -10,7 +11,8 @@ use Rattle.commands.specs.declared.effect.Mode.the-variants.{ReadMode}
 use Rattle.chip.specs.declared.device.Operation.{Operation}
 use Rattle.chip.specs.declared.device.Core.{Core}
 use Rattle.chip.specs.declared.device.Device.{Device}
-use Rattle.chip.specs.Device.{busyWith, atRest, freshCore, busy, reads, device, freshDevice, coreInRange, coreIdle, idle}
+use Rattle.parts.specs.Pick.{pick}
+use Rattle.chip.specs.Device.{withRecent, busyWith, atRest, agedBy, freshCore, busy, reads, device, freshDevice, coreInRange, coreIdle, idle}
 use Rattle.chip.proofs.Accepted.{read-mode, rest-range}
 
 pub idle-is : (d : Device) → idle d ≡ true → (d ≡ device (d .core) 0) × (coreIdle (d .core) ≡ true)
@@ -19,22 +21,38 @@ idle-is d i =
     let w = both (eqb (d .stage) 0) (coreIdle (d .core)) i in
     (ap (λ (s : ℕ). device (d .core) s) (eqb-true (d .stage) 0 (w .0)), w .1)
 
+-- ---- any positive time ends that a completion is 0 µs old
+pub some-time-ages : (k : Core) (e : ℕ) → 0 < e → agedBy k e ≡ withRecent k false
+some-time-ages k e some = ap (withRecent k) (simp (lt-ltb 0 e some, ne-eqb e 0 (λ z. omega arith)))
+
 -- ---- an idle core
 module _ (k : Core) (i : coreIdle k ≡ true) where
   -- nothing runs
   pub idle-rests : busy k ≡ false
   unfolding coreIdle
-  idle-rests = unless (busy k) (reads (k .mode)) i .0
+  idle-rests = unless (busy k) (pick (k .recent) false (reads (k .mode))) i .0
+
+  -- no completion is 0 µs old, and it is in read mode
+  old-reads : (k .recent ≡ false) × (reads (k .mode) ≡ true)
+  unfolding coreIdle
+  old-reads = unless (k .recent) (reads (k .mode)) (unless (busy k) (pick (k .recent) false (reads (k .mode))) i .1)
+
+  pub idle-old : k .recent ≡ false
+  idle-old = old-reads .0
 
   pub idle-reads : k .mode ≡ ReadMode
-  unfolding coreIdle
-  idle-reads = read-mode (k .mode) (unless (busy k) (reads (k .mode)) i .1)
+  idle-reads = read-mode (k .mode) (old-reads .1)
+
+  -- no time changes it
+  pub idle-ages : (e : ℕ) → agedBy k e ≡ k
+  idle-ages zero = refl
+  idle-ages (suc e) = some-time-ages k (suc e) (omega arith) ∙ ap (withRecent k) (sym idle-old)
 
   pub idle-range : (r : Row) → coreInRange r k ≡ true
   idle-range r = rest-range r k idle-rests
 
-  -- once an operation that it started has completed, it is idle again
-  pub idle-again : (o : Operation) → coreIdle (atRest (busyWith k o)) ≡ true
+  -- once an operation that it started has completed and time has passed, it is idle again
+  pub idle-again : (o : Operation) → coreIdle (atRest (busyWith k o) false) ≡ true
   unfolding coreIdle
   idle-again o = refl
 

@@ -1,5 +1,6 @@
 pub mod Over
 pub mod Bits
+pub mod Outputs
 pub mod Leaves
 pub mod Accepted
 pub mod Idle
@@ -9,6 +10,7 @@ pub mod Cases
 pub mod Started
 pub mod Trace
 pub mod Ranges
+pub mod Recent
 pub mod Determined
 pub mod Sentences
 pub mod Untouched

@@ -49,7 +49,7 @@ module _ (r : Row) (d : Device) (i : deviceInRange r d ≡ true) where
       after = withRunning (d .core) (toggled (d .core .running))
 
       shows : stageInRange (d .core) (d .stage) ≡ true → Valid r (d .core) → InRange (withCore d after)
-      shows s v = in-range r after (d .stage) s (valid-range r after (record { command = v .command; time = v .time; there = v .there; fits = v .fits; mode = v .mode }))
+      shows s v = in-range r after (d .stage) s (valid-range r after (record { command = v .command; time = v .time; there = v .there; fits = v .fits; mode = v .mode; old = v .old }))
 
   written-range : (wp : Bool) (a x : ℕ) → a < r .cells → fitsIn (r .width) x ≡ true → InRange (writtenOf r d wp a x)
   unfolding writtenOf
@@ -71,7 +71,7 @@ module _ (r : Row) (d : Device) (i : deviceInRange r d ≡ true) where
       starts b c h =
           sampled (λ (k : Core) (ops : List Operation). InRange (device k 0)) r k wp a x c (λ _. enters b ReadMode)
           (λ _. let n = busyWith k (newOperation r c a x) in
-          in-range r n 0 (stage-none n) (valid-range r n (record { command = h; time = le-refl _; there = there; fits = fits; mode = refl })))
+          in-range r n 0 (stage-none n) (valid-range r n (record { command = h; time = le-refl _; there = there; fits = fits; mode = refl; old = refl })))
 
 acted-range : (r : Row) (h : Chip) (wp : Bool) (a : Action) → deviceInRange r (h .device) ≡ true → actionRefusal r a ≡ 0 → deviceInRange r (actedOf r h wp a .reply .device) ≡ true
 acted-range r h wp (Read a) i z = read-range r (h .device) i (h .cells) a

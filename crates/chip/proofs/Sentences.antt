@@ -23,11 +23,11 @@ use Rattle.chip.specs.declared.cycle.Action.{Action}
 use Rattle.chip.specs.declared.cycle.Action.the-variants.{Read, Write, Idle, Cut}
 use Rattle.chip.specs.declared.cycle.Cycle.{Cycle}
 use Rattle.chip.specs.declared.cycle.Shown.{Shown}
-use Rattle.chip.specs.Device.{noOperation, busy, device, freshDevice, core, inMode, deviceInRange}
+use Rattle.chip.specs.Device.{noOperation, busy, device, withCore, freshDevice, core, inMode, agedBy, deviceInRange}
 use Rattle.commands.specs.Commands.{broken, effectOf}
 use Rattle.chip.specs.Operation.{cellsOf, over, scarred, cutOn}
 use Rattle.chip.specs.Sequence.{afterEffect, writtenOf}
-use Rattle.chip.specs.Cycle.{cycle, Chip, chip, Outcome, outcome, identity, readOf, cutOf, settledOf, Settled, afterTime, actionRefusal, cycleRefusal, actedOf, acceptedOf, cycleOf}
+use Rattle.chip.specs.Cycle.{cycle, Chip, chip, Outcome, outcome, identity, outputsOf, readOf, cutOf, settledOf, Settled, afterTime, actionRefusal, cycleRefusal, actedOf, acceptedOf, cycleOf}
 use Rattle.chip.specs.Trace.{leaves, after, play, effectStarts, actionStarts, startedBy, startedIn}
 use Rattle.chip.proofs.Accepted.{accepted}
 use Rattle.chip.proofs.Cases.{accepted-cycle, refused-cycle, rests, write-leaves, write-starts}
@@ -86,10 +86,14 @@ module _ (part : ℕ) (cells : List ℕ) (d : Device) (e : ℕ) (wp : Bool) wher
       split (λ (o : Outcome). o .reply .device .core .mode ≡ d .core .mode) (eqb (cycleRefusal part (length cells) d (Read a)) 0) _ _
       (λ _. read-mode (rowOf part) _ _ a ∙ settled-mode (rowOf part)) (λ _. refl)
 
-  -- In identification mode address 0 shows the maker, BFH, 1 the device, others 0; nothing else changes.
-  pub identifies : (a : ℕ) → Taken (Read a) → busy (d .core) ≡ false → d .core .mode ≡ Identification → gives (Read a) ≡ outcome cells (getD (0xbf ∷ rowOf part .device ∷ []) a 0) d
+  -- In identification mode address 0 shows the maker, BFH, 1 the device, others 0, as the outputs are once the cycle's time has passed; nothing else changes.
+  pub identifies : (a : ℕ) → Taken (Read a) → busy (d .core) ≡ false → d .core .mode ≡ Identification
+      → gives (Read a) ≡ outcome cells (outputsOf (rowOf part .width) (agedBy (d .core) e .recent) (getD (0xbf ∷ rowOf part .device ∷ []) a 0)) (withCore d (agedBy (d .core) e))
   unfolding acceptedOf readOf
-  identifies a z b m = taken (Read a) z ∙ rw (rests (rowOf part) cells (d .core) e b) (simp (b, m) (ap (λ (v : ℕ). outcome cells v d) (same a)))
+  identifies a z b m =
+      taken (Read a) z
+      ∙ rw (rests (rowOf part) cells (d .core) e b)
+      (simp (b, m) (rw m at (ap (λ (v : ℕ). outcome cells (outputsOf (rowOf part .width) (agedBy (d .core) e .recent) v) (withCore d (agedBy (d .core) e))) (same a))))
     where
       same : (a : ℕ) → identity (rowOf part) a ≡ getD (0xbf ∷ rowOf part .device ∷ []) a 0
       same zero = refl
@@ -120,7 +124,7 @@ module _ (part : ℕ) (cells : List ℕ) (known : partRefusal part ≡ 0) (whole
   -- read mode, no sequence begun, nothing started, the cells as they were
   abbrev Returns : Type 0
   Returns =
-      (after part (chip cells (device k s)) (cycle e wp (Write a x)) ≡ chip cells (device (inMode k ReadMode) 0))
+      (after part (chip cells (device k s)) (cycle e wp (Write a x)) ≡ chip cells (device (inMode (agedBy k e) ReadMode) 0))
       × (startedBy part (chip cells (device k s)) (cycle e wp (Write a x)) ≡ [])
 
   breaks : effectOf (rowOf part) s a x ≡ broken → Returns
@@ -146,10 +150,10 @@ module _ (part : ℕ) (cells : List ℕ) (known : partRefusal part ≡ 0) (whole
 nothing : {A : Type 0} (o : Operation) (os : List Operation) → [] ≡ o ∷ os → A
 nothing o os q = let z : _≡_ {A = ℕ} 0 (suc (length os)) = ap length q in absurd (omega arith)
 
-pub start-ends-modes : (part : ℕ) (h : Chip) (c : Cycle) (o : Operation) (os : List Operation) → startedBy part h c ≡ o ∷ os → after part h c .device ≡ device (core ReadMode o) 0
+pub start-ends-modes : (part : ℕ) (h : Chip) (c : Cycle) (o : Operation) (os : List Operation) → startedBy part h c ≡ o ∷ os → after part h c .device ≡ device (core ReadMode o false) 0
 unfolding after startedBy cycleOf acceptedOf writtenOf
 start-ends-modes part h c o os =
-    twice (λ (out : Outcome) (ops : List Operation). ops ≡ o ∷ os → out .reply .device ≡ device (core ReadMode o) 0)
+    twice (λ (out : Outcome) (ops : List Operation). ops ≡ o ∷ os → out .reply .device ≡ device (core ReadMode o false) 0)
     (eqb (cycleRefusal part (length (h .cells)) (h .device) (c .action)) 0) _ _ _ _ (λ _. acts (c .action)) (λ _ q. nothing o os q)
   where
     r : Row
@@ -159,12 +163,12 @@ start-ends-modes part h c o os =
     s = afterTime r h (c .elapsed)
 
     Ends : Device → List Operation → Type 0
-    Ends d ops = ops ≡ o ∷ os → d ≡ device (core ReadMode o) 0
+    Ends d ops = ops ≡ o ∷ os → d ≡ device (core ReadMode o false) 0
 
     starts : (k : Core) (wp : Bool) (a x n : ℕ) → Ends (afterEffect r k wp a x (Starts n)) (effectStarts r wp a x (Starts n))
     starts k wp a x n =
         sampled (λ (k : Core) (ops : List Operation). Ends (device k 0) ops) r k wp a x n (λ _ q. nothing o os q)
-        (λ _ q. ap (λ (l : List Operation). device (core ReadMode (getD l 0 noOperation)) 0) q)
+        (λ _ q. ap (λ (l : List Operation). device (core ReadMode (getD l 0 noOperation) false) 0) q)
 
     writes : (d : Device) (wp : Bool) (a x : ℕ) → Ends (writtenOf r d wp a x) (actionStarts r d wp (Write a x))
     writes d wp a x =

@@ -4,7 +4,7 @@ use mathlib.Core.Path.{_≡_, refl, sym, ap, ap₂, _∙_}
 use mathlib.Core.Bool.{true}
 use mathlib.Core.List.{List}
 use native.Mathlib.Omega.{arith}
-use lib.Dec.{ltb}
+use lib.Dec.{eqb, ltb}
 use lib.ListN.{length}
 use Rattle.parts.specs.Table.{rowOf, foundOf}
 use Rattle.parts.specs.declared.table.Row.{Row}
@@ -15,13 +15,13 @@ use Rattle.chip.specs.declared.device.Core.{Core}
 use Rattle.chip.specs.declared.device.Device.{Device}
 use Rattle.chip.specs.declared.cycle.Cycle.{Cycle}
 use Rattle.chip.specs.declared.cycle.Reply.{Reply}
-use Rattle.chip.specs.Device.{withLeft, withRunning, atRest, busy, device, withCore, coreInRange, stageInRange, deviceInRange}
+use Rattle.chip.specs.Device.{withLeft, withRunning, atRest, agedBy, busy, device, withCore, coreInRange, stageInRange, deviceInRange}
 use Rattle.chip.specs.Operation.{cellsOf, completeOn, cutOn, finished, scarred}
 use Rattle.chip.specs.Cycle.{Chip, chip, reply, Settled, settledOf, afterTime, actionRefusal, cycleRefusalOn, cycleRefusal, actedOf, acceptedOf, cycleOf}
 use Rattle.chip.specs.Needs.{InWords, RunsInside}
 use Rattle.chip.proofs.Over.{over-length}
 use Rattle.chip.proofs.Cases.{refused-cycle}
-use Rattle.chip.proofs.Accepted.{accepted, busy-valid, valid-range, rest-range, in-range, ranges, stage-none, stage-busy, in-words, runs-inside}
+use Rattle.chip.proofs.Accepted.{accepted, busy-valid, valid-range, rest-range, in-range, ranges, stage-none, stage-ages, stage-busy, in-words, runs-inside}
 
 module _ (r : Row) (o : Operation) (cells : List ℕ) (h : cellsOf r o .first + cellsOf r o .count ≤ length cells) where
   pub complete-length : length (completeOn r o cells) ≡ length cells
@@ -49,9 +49,9 @@ after-time-range r h e i =
     rw none
     (split Begun (ltb e (k .running .left)) _ _
     (λ l. in-range r (runs-on e) 0 (stage-none (runs-on e))
-    (valid-range r (runs-on e) (record { command = v .command; time = omega (arith, v .time); there = v .there; fits = v .fits; mode = v .mode })))
-    (λ _. in-range r (atRest k) 0 (stage-none (atRest k)) (rest-range r (atRest k) refl))))
-    (λ _. i)
+    (valid-range r (runs-on e) (record { command = v .command; time = omega (arith, v .time); there = v .there; fits = v .fits; mode = v .mode; old = v .old })))
+    (λ _. let n = atRest k (eqb e (k .running .left)) in in-range r n 0 (stage-none n) (rest-range r n refl))))
+    (λ b. in-range r (agedBy k e) (h .device .stage) (stage-ages k (h .device .stage) e (w .0)) (rest-range r (agedBy k e) b))
   where
     k : Core
     k = h .device .core

@@ -21,14 +21,13 @@ use Rattle.chip.specs.declared.cycle.Action.{Action}
 use Rattle.chip.specs.declared.cycle.Action.the-variants.{Read, Write, Idle, Cut}
 use Rattle.chip.specs.declared.cycle.Cycle.{Cycle}
 use Rattle.chip.specs.declared.cycle.Shown.{Shown}
-use Rattle.chip.specs.Device.{busy, idle}
+use Rattle.chip.specs.Device.{busy}
 use Rattle.chip.specs.Operation.{cellsOf, completeOn}
 use Rattle.commands.specs.Commands.{effectOf}
 use Rattle.chip.specs.Sequence.{coreAfter, writtenOf}
 use Rattle.chip.specs.Cycle.{Chip, Outcome, Settled, settledOf, afterTime, readOf, actedOf, cycleRefusal, acceptedOf, cycleOf}
 use Rattle.chip.specs.Trace.{leaves, after, play, effectStarts, actionStarts, startedBy, startedIn, completeAll, uncutAction, uncut}
 use Rattle.chip.proofs.Accepted.{Accepted, accepted}
-use Rattle.chip.proofs.Idle.{idle-is, idle-rests}
 use Rattle.chip.proofs.Sampled.{twice, sampled}
 use Rattle.commands.proofs.Effects.{effect-is}
 
@@ -117,14 +116,14 @@ trace-coming part (c ∷ cs) h u =
     ∙ (ap (completeAll (rowOf part) (startedIn part (after part h c) cs)) (cycle-coming part h c (w .0))
     ∙ sym (complete-append (rowOf part) (startedBy part h c) (startedIn part (after part h c) cs) (comingTo (rowOf part) h)))
 
--- idle: nothing to come
-idle-coming : (r : Row) (h : Chip) → idle (h .device) ≡ true → comingTo r h ≡ h .cells
+-- at rest: nothing to come
+rest-coming : (r : Row) (h : Chip) → busy (h .device .core) ≡ false → comingTo r h ≡ h .cells
 unfolding coming
-idle-coming r h i = rw (idle-rests (h .device .core) (idle-is (h .device) i .1))
+rest-coming r h b = rw b
 
--- THE TRACE LAW: from an idle device, without a cut, to an idle one
-pub trace : (part : ℕ) (cs : List Cycle) (h : Chip) → uncut cs ≡ true → idle (h .device) ≡ true → idle (play part h cs .device) ≡ true
+-- THE TRACE LAW: without a cut, from a device on which nothing runs, as on an idle one, to such a device
+pub trace : (part : ℕ) (cs : List Cycle) (h : Chip) → uncut cs ≡ true → busy (h .device .core) ≡ false → busy (play part h cs .device .core) ≡ false
     → play part h cs .cells ≡ completeAll (rowOf part) (startedIn part h cs) (h .cells)
-trace part cs h u i j =
-    sym (idle-coming (rowOf part) (play part h cs) j)
-    ∙ (trace-coming part cs h u ∙ ap (completeAll (rowOf part) (startedIn part h cs)) (idle-coming (rowOf part) h i))
+trace part cs h u b e =
+    sym (rest-coming (rowOf part) (play part h cs) e)
+    ∙ (trace-coming part cs h u ∙ ap (completeAll (rowOf part) (startedIn part h cs)) (rest-coming (rowOf part) h b))

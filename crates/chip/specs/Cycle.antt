@@ -4,9 +4,10 @@ use mathlib.Core.Bool.{Bool}
 use mathlib.Core.List.{List}
 use lib.Dec.{eqb, ltb}
 use lib.ListN.{length, getD}
+use lib.Bits.{bitXor}
 use Rattle.parts.specs.Names.{PROGRAM, WRONG-CELLS, NO-ADDRESS, WIDE-DATA, BAD-STATE}
 use Rattle.parts.specs.Pick.{pick, _unless_, _else_, _orElse_}
-use Rattle.parts.specs.Width.{valueOf, fitsIn}
+use Rattle.parts.specs.Width.{valueOf, blankOf, fitsIn}
 use Rattle.parts.specs.Table.{rowOf, foundOf}
 use Rattle.parts.specs.declared.table.Row.{Row}
 use Rattle.parts.specs.declared.table.Found.{Found}
@@ -20,7 +21,7 @@ use Rattle.chip.specs.declared.cycle.Action.the-variants.{Read, Write, I
 use Rattle.chip.specs.declared.cycle.Cycle.{Cycle}
 use Rattle.chip.specs.declared.cycle.Reply.{Reply}
 use Rattle.chip.specs.declared.cycle.Shown.{Shown}
-use Rattle.chip.specs.Device.{withLeft, toggled, withRunning, atRest, busy, withCore, freshDevice, deviceInRange}
+use Rattle.chip.specs.Device.{withLeft, toggled, withRunning, atRest, agedBy, busy, withCore, freshDevice, deviceInRange}
 use Rattle.chip.specs.Operation.{completeOn, cutOn}
 use Rattle.chip.specs.Sequence.{writtenOf}
 
@@ -65,7 +66,7 @@ cycleRefusalOn f lent d a =
 unfoldable pub cycleRefusal : ℕ → ℕ → Device → Action → ℕ
 cycleRefusal part lent d a = cycleRefusalOn (foundOf part) lent d a
 
--- ---- time passes: with e below what is left the rest is left, otherwise the operation completes on the cells
+-- ---- time passes: with e below what is left the rest is left, otherwise the operation completes on the cells, 0 µs ago where e is what was left
 pub record Settled : Type 0 where
   pub cells : List ℕ
   pub core : Core
@@ -78,26 +79,33 @@ settledOf r cells k e =
     pick (busy k)
     (pick (ltb e (k .running .left))
     (settled cells (withRunning k (withLeft (k .running) (k .running .left - e))))
-    (settled (completeOn r (k .running) cells) (atRest k)))
-    (settled cells k)
+    (settled (completeOn r (k .running) cells) (atRest k (eqb e (k .running .left)))))
+    (settled cells (agedBy k e))
 
--- the chip once time has afterTime
+-- the chip once time has passed
 abbrev pub afterTime : Row → Chip → ℕ → Chip
 afterTime r h e =
     let s = settledOf r (h .cells) (h .device .core) e in
     chip (s .cells) (withCore (h .device) (s .core))
 
 -- ---- reads
+-- bits 7 and 6 of a word
+abbrev pub BIT-7 : ℕ
+BIT-7 = 128
+
+abbrev pub BIT-6 : ℕ
+BIT-6 = 64
+
 -- bit 7 while busy: the complement of the data's for program, 0 for erase
 abbrev pub bit7 : Operation → ℕ
-bit7 o = pick (eqb (o .kind) PROGRAM) (1 - o .«data» / 128 % 2) 0
+bit7 o = pick (eqb (o .kind) PROGRAM) (1 - o .«data» / BIT-7 % 2) 0
 
 -- bit 6 while busy
 abbrev pub bit6 : Operation → ℕ
 bit6 o = pick (o .toggle) 1 0
 
 abbrev pub status : Operation → ℕ
-status o = bit7 o * 128 + bit6 o * 64
+status o = bit7 o * BIT-7 + bit6 o * BIT-6
 
 -- in identification mode address 0 shows the maker, BFH, 1 the device, others 0
 abbrev pub identity : Row → ℕ → ℕ
@@ -108,6 +116,14 @@ abbrev pub shownOf : Row → List ℕ → Mode → ℕ → ℕ
 shownOf r cells ReadMode a = valueOf (r .width) (getD cells a 0)
 shownOf r cells Identification a = identity r a
 
+-- all the part's bits but 7 inverted
+abbrev pub inverted : ℕ → ℕ → ℕ
+inverted width v = bitXor v (blankOf width - BIT-7)
+
+-- what the outputs show of a value at rest: while a completion is 0 µs old it is so inverted
+abbrev pub outputsOf : ℕ → Bool → ℕ → ℕ
+outputsOf width n v = pick n (inverted width v) v
+
 -- the value, and the core afterwards
 abbrev pub showing : ℕ → Core → Shown
 showing v k = record { value = v; core = k }
@@ -115,7 +131,7 @@ showing v k = record { value = v; core = k }
 unfoldable pub readOf : Row → List ℕ → Core → ℕ → Shown
 readOf r cells k a =
     pick (busy k) (showing (status (k .running)) (withRunning k (toggled (k .running))))
-    (showing (shownOf r cells (k .mode) a) k)
+    (showing (outputsOf (r .width) (k .recent) (shownOf r cells (k .mode) a)) k)
 
 -- ---- a power cut: the cells that it leaves, an operation being cut short
 unfoldable pub cutOf : Row → List ℕ → Core → ℕ → List ℕ

@@ -29,29 +29,37 @@ withLeft o l = operation (o .kind) (o .address) (o .«data») l (o .toggle)
 abbrev pub toggled : Operation → Operation
 toggled o = operation (o .kind) (o .address) (o .«data») (o .left) (not (o .toggle))
 
--- ---- the core: all of a device but its write sequence; time, reads and cuts use nothing else
-abbrev pub core : Mode → Operation → Core
-core m o = record { mode = m; running = o }
+-- ---- the core: all of a device but its write sequence; time, reads and cuts use nothing else. Its mode, what runs, and whether a completion is 0 µs old
+abbrev pub core : Mode → Operation → Bool → Core
+core m o n = record { mode = m; running = o; recent = n }
 
 -- in another mode
 abbrev pub inMode : Core → Mode → Core
-inMode k m = core m (k .running)
+inMode k m = core m (k .running) (k .recent)
 
 -- with what runs
 abbrev pub withRunning : Core → Operation → Core
-withRunning k o = core (k .mode) o
+withRunning k o = core (k .mode) o (k .recent)
 
--- an operation starts: read mode, and it runs
+-- with a completion 0 µs old, or none
+abbrev pub withRecent : Core → Bool → Core
+withRecent k n = core (k .mode) (k .running) n
+
+-- an operation starts: read mode, it runs, and no completion is 0 µs old
 abbrev pub busyWith : Core → Operation → Core
-busyWith k o = withRunning (inMode k ReadMode) o
+busyWith k o = withRecent (withRunning (inMode k ReadMode) o) false
 
--- an operation has completed: nothing runs
-abbrev pub atRest : Core → Core
-atRest k = withRunning k noOperation
+-- an operation has completed: nothing runs, and the completion is 0 µs old or is not
+abbrev pub atRest : Core → Bool → Core
+atRest k n = withRecent (withRunning k noOperation) n
 
--- read mode, nothing running
+-- e µs at rest: any positive time ends that a completion is 0 µs old
+abbrev pub agedBy : Core → ℕ → Core
+agedBy k e = withRecent k (pick (ltb 0 e) false (k .recent))
+
+-- read mode, nothing running, no completion 0 µs old
 abbrev pub freshCore : Core
-freshCore = core ReadMode noOperation
+freshCore = core ReadMode noOperation false
 
 -- busy: an operation is pending exactly when time is left
 abbrev pub busy : Core → Bool
@@ -83,9 +91,9 @@ abbrev pub reads : Mode → Bool
 reads ReadMode = true
 reads Identification = false
 
--- with an operation pending a valid one, and read mode
+-- with an operation pending no completion 0 µs old, read mode, and a valid operation
 unfoldable pub coreInRange : Row → Core → Bool
-coreInRange r k = pick (busy k) (pick (reads (k .mode)) (validOperation r (k .running)) false) true
+coreInRange r k = pick (busy k) (pick (k .recent) false (pick (reads (k .mode)) (validOperation r (k .running)) false)) true
 
 -- a step within the seven stages; with an operation pending no sequence
 unfoldable pub stageInRange : Core → ℕ → Bool
@@ -94,9 +102,9 @@ stageInRange k s = pick (busy k) (eqb s NONE-BEGUN) (leb s SECOND-55H)
 unfoldable pub deviceInRange : Row → Device → Bool
 deviceInRange r d = pick (stageInRange (d .core) (d .stage)) (coreInRange r (d .core)) false
 
--- ---- idle: read mode with no sequence begun and nothing running
+-- ---- idle: read mode with no sequence begun, nothing running and no completion 0 µs old
 unfoldable pub coreIdle : Core → Bool
-coreIdle k = pick (busy k) false (reads (k .mode))
+coreIdle k = pick (busy k) false (pick (k .recent) false (reads (k .mode)))
 
 unfoldable pub idle : Device → Bool
 idle d = pick (eqb (d .stage) NONE-BEGUN) (coreIdle (d .core)) false

@@ -4,3 +4,4 @@ pub mod Sequence
 pub mod Cycle
 pub mod Needs
 pub mod Trace
+pub mod Recent

@@ -7,9 +7,10 @@ use Rattle.chip.specs.declared.device.Core.{Core}
 use Rattle.chip.specs.Device.{busy}
 use Rattle.chip.specs.Operation.{cellsOf}
 
--- the values and the device ID of the part are words
+-- the values and the device ID of the part are words, and its values have a bit 7
 pub record InWords (r : Row) : Type 0 where
   pub values : r .width ≤ 16
+  pub bit-7 : 8 ≤ r .width
   pub identity : r .device < 65536
 
 -- the cells of an operation that runs are among the n lent ones

@@ -45,7 +45,7 @@ actionStarts r d wp (Write a x) = pick (busy (d .core)) [] (effectStarts r wp a 
 actionStarts r d wp Idle = []
 actionStarts r d wp (Cut s) = []
 
--- the operation that a cycle starts, once its time has afterTime
+-- the operation that a cycle starts, once its time has passed
 unfoldable pub startedBy : ℕ → Chip → Cycle → List Operation
 startedBy part h c =
     pick (eqb (cycleRefusal part (length (h .cells)) (h .device) (c .action)) 0)

@@ -15,11 +15,16 @@ use parts::names::PROGRAM;
 use parts::names::WIDE_DATA;
 use parts::names::WRONG_CELLS;
 ghost use mathlib.Core.Path.{_≡_};
-ghost use Prim.Native.Nat.{_<_};
+ghost use Prim.Native.Nat.{_<_, _≤_};
 ghost use lib.ListN.{length};
 ghost use mathlib.Core.Bool.{true};
-ghost use Rattle.chip.specs.Cycle.{actedOf, actionRefusal, bit6, bit7, chip, cutOf, cycleOf, cycleRefusalOn, identity, readOf, settledOf, shownOf, status};
+ghost use Rattle.chip.specs.Cycle.{actedOf, actionRefusal, bit6, bit7, chip, cutOf, cycleOf, cycleRefusalOn, identity, inverted, outputsOf, readOf, settledOf, shownOf, status};
 ghost use Rattle.chip.specs.Needs.{InWords, RunsInside};
+
+// Bits 7 and 6 of a word.
+const BIT_7: u16 = 128;
+
+const BIT_6: u16 = 64;
 
 // What a cycle does: read an address, write an address with data, nothing, or a power cut with a scar.
 pub enum Action {
@@ -111,13 +116,13 @@ fn settle(cells: &mut [u16], row: Row, core: Core, elapsed: u32) -> Core
     let o = core.running;
     let left = o.left;
     if left <= 0 {
-        return core;
+        return core.aged_by(elapsed);
     }
     if elapsed < left {
         return core.with_running(o.with_left(left - elapsed));
     }
     complete(&mut *cells, row, o);
-    core.at_rest()
+    core.at_rest(elapsed == left)
 }
 
 // Bit 7 while busy.
@@ -125,7 +130,7 @@ fn bit_7(o: Operation) -> u16
     ensures { λ r. ⌜ r ≡ bit7 o ⌝ }
 {
     if o.kind == PROGRAM {
-        return 1 - o.data / 128 % 2;
+        return 1 - o.data / BIT_7 % 2;
     }
     0
 }
@@ -144,7 +149,7 @@ fn bit_6(o: Operation) -> u16
 fn busy_status(o: Operation) -> u16
     ensures { λ r. ⌜ r ≡ status o ⌝ }
 {
-    bit_7(o) * 128 + bit_6(o) * 64
+    bit_7(o) * BIT_7 + bit_6(o) * BIT_6
 }
 
 // What identification mode shows at an address.
@@ -161,7 +166,15 @@ fn identity_at(row: Row, a: u32) -> u16
     0
 }
 
-// What a read at rest shows.
+// All the part's bits but 7 inverted.
+fn invert(width: u32, v: u16) -> u16
+    requires { ⌜ (8 ≤ width) × (width ≤ 16) ⌝ }
+    ensures { λ r. ⌜ r ≡ inverted width v ⌝ }
+{
+    v ^ (parts::blank(width) - BIT_7)
+}
+
+// What a read at rest shows once a completion is older than 0 µs.
 fn rest_value(cells: &[u16], row: Row, mode: Mode, a: u32) -> u16
     requires { ⌜ InWords row ⌝ }
     requires { ⌜ a < length (now cells) ⌝ }
@@ -171,6 +184,20 @@ fn rest_value(cells: &[u16], row: Row, mode: Mode, a: u32) -> u16
         Mode::ReadMode => parts::value(row.width, cells[a as usize]),
         Mode::Identification => identity_at(row, a),
     }
+}
+
+// What the outputs show at rest: inverted while a completion is 0 µs old.
+fn outputs(cells: &[u16], row: Row, core: Core, a: u32) -> u16
+    requires { ⌜ InWords row ⌝ }
+    requires { ⌜ a < length (now cells) ⌝ }
+    ensures { λ r. ⌜ r ≡ outputsOf (row .width) (core .recent) (shownOf row (now (cells .entry)) (core .mode) a) ⌝ }
+{
+    let mode = core.mode;
+    let v = rest_value(cells, row, mode, a);
+    if core.recent {
+        return invert(row.width, v);
+    }
+    v
 }
 
 // A read, after its time has passed.
@@ -186,9 +213,8 @@ fn look(cells: &[u16], row: Row, core: Core, a: u32) -> Shown
             core: core.with_running(o.toggled()),
         };
     }
-    let mode = core.mode;
     Shown {
-        value: rest_value(cells, row, mode, a),
+        value: outputs(cells, row, core, a),
         core,
     }
 }

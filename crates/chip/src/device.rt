@@ -1,10 +1,11 @@
-// The device state: its core, that is its mode and the operation that runs, and the stage of its write sequence.
+// The device state: its core, that is its mode, the operation that runs and whether one has just completed, and the stage of
+// its write sequence.
 use commands::Mode;
 use parts::Row;
 use parts::names::NONE_BEGUN;
 use parts::names::SECOND_55H;
 ghost use mathlib.Core.Path.{_≡_};
-ghost use Rattle.chip.specs.Device.{atRest, busy, busyWith, coreInRange, deviceInRange, freshDevice, inMode, noOperation, reads, toggled, validOperation, withCore, withLeft, withRunning};
+ghost use Rattle.chip.specs.Device.{agedBy, atRest, busy, busyWith, coreInRange, deviceInRange, freshDevice, inMode, noOperation, reads, toggled, validOperation, withCore, withLeft, withRecent, withRunning};
 
 // An operation: its command's number, address and data, the µs left, and what bit 6 shows at the
 // next busy read. It is pending exactly while time is left.
@@ -16,10 +17,11 @@ pub struct Operation {
     pub toggle: bool,
 }
 
-// All of a device but its write sequence: time, reads and cuts use nothing else.
+// All of a device but its write sequence: time, reads and cuts use nothing else. A recent completion is one 0 µs old.
 pub struct Core {
     pub mode: Mode,
     pub running: Operation,
+    pub recent: bool,
 }
 
 // The stage is one of the seven of a write sequence (parts::names).
@@ -102,7 +104,11 @@ impl Core {
         ensures { λ r. ⌜ r ≡ inMode self mode ⌝ }
     {
         let running = self.running;
-        Core { mode, running }
+        Core {
+            mode,
+            running,
+            recent: self.recent,
+        }
     }
 
     // With what runs.
@@ -110,22 +116,51 @@ impl Core {
         ensures { λ r. ⌜ r ≡ withRunning self running ⌝ }
     {
         let mode = self.mode;
-        Core { mode, running }
+        Core {
+            mode,
+            running,
+            recent: self.recent,
+        }
     }
 
-    // An operation starts: read mode, and it runs.
+    // With a completion 0 µs old, or none.
+    fn with_recent(self, recent: bool) -> Core
+        ensures { λ r. ⌜ r ≡ withRecent self recent ⌝ }
+    {
+        let mode = self.mode;
+        let running = self.running;
+        Core {
+            mode,
+            running,
+            recent,
+        }
+    }
+
+    // An operation starts: read mode, it runs, and no completion is 0 µs old.
     pub(crate) fn busy_with(self, running: Operation) -> Core
         ensures { λ r. ⌜ r ≡ busyWith self running ⌝ }
     {
         let read = self.in_mode(Mode::ReadMode);
-        read.with_running(running)
+        let busy = read.with_running(running);
+        busy.with_recent(false)
     }
 
-    // An operation has completed: nothing runs.
-    pub(crate) fn at_rest(self) -> Core
-        ensures { λ r. ⌜ r ≡ atRest self ⌝ }
+    // An operation has completed: nothing runs, and the completion is 0 µs old or is not.
+    pub(crate) fn at_rest(self, recent: bool) -> Core
+        ensures { λ r. ⌜ r ≡ atRest self recent ⌝ }
     {
-        self.with_running(no_operation())
+        let rested = self.with_running(no_operation());
+        rested.with_recent(recent)
+    }
+
+    // Time at rest: any positive time ends that a completion is 0 µs old.
+    pub(crate) fn aged_by(self, elapsed: u32) -> Core
+        ensures { λ r. ⌜ r ≡ agedBy self elapsed ⌝ }
+    {
+        if 0 < elapsed {
+            return self.with_recent(false);
+        }
+        self
     }
 
     // Whether an operation runs.
@@ -142,6 +177,9 @@ impl Core {
     {
         if !self.is_busy() {
             return true;
+        }
+        if self.recent {
+            return false;
         }
         let mode = self.mode;
         if reads_cells(mode) {
@@ -189,6 +227,7 @@ pub fn fresh() -> Device
     let core = Core {
         mode: Mode::ReadMode,
         running: no_operation(),
+        recent: false,
     };
     Device {
         core,

@@ -31,7 +31,7 @@ use Rattle.driver.specs.Machine.{valueWanted, noDriver, startOf, startWriting, 
 use Rattle.driver.proofs.Begins.{start-range}
 use Rattle.driver.proofs.Theorems.{refused-steps}
 use Rattle.bus.specs.Cycle.{deviceOf, noState, Cycled, cycledNumbers}
-use Rattle.bus.proofs.Back.{bad-mode, bad-toggle, no-device, refused-numbers, taken-numbers}
+use Rattle.bus.proofs.Back.{bad-mode, bad-toggle, bad-recent, no-device, refused-numbers, taken-numbers}
 use Rattle.job.specs.declared.bill.Bill.{Bill}
 use Rattle.job.specs.Bill.{Loaded, Reported, refusedBill, loadOf, reportOf}
 use Rattle.jobfile.specs.declared.trailer.JobFile.{JobFile}
@@ -154,11 +154,12 @@ cycles-refuse g = by n refl
 
 no-devices : (g : OnStation) → noDevice (g .device) ≡ true
     → refusedCycle (meant g) ≡ (partRefusal (g .part) orElse 2 unless eqb (length (g .cells)) (rowOf (g .part) .cells) else 5)
-no-devices g e = no-device (g .part) (length (g .cells)) (g .device) (g .cycle .action) (by (ltb 1 (g .device .mode)) refl e)
+no-devices g e = no-device (g .part) (length (g .cells)) (g .device) (g .cycle .action) (by (ltb 1 (g .device .mode)) refl (ltb 1 (g .device .toggle)) refl e)
   where
-    by : (t : Bool) → ltb 1 (g .device .mode) ≡ t → pick t true (ltb 1 (g .device .toggle)) ≡ true → deviceOf (g .device) ≡ noState
-    by true t e = bad-mode (g .device) (ltb-true 1 (g .device .mode) t)
-    by false t e = bad-toggle (g .device) (ltb-false 1 (g .device .mode) t) (ltb-true 1 (g .device .toggle) e)
+    by : (t : Bool) → ltb 1 (g .device .mode) ≡ t → (s : Bool) → ltb 1 (g .device .toggle) ≡ s → pick t true (pick s true (ltb 1 (g .device .recent))) ≡ true → deviceOf (g .device) ≡ noState
+    by true t s u e = bad-mode (g .device) (ltb-true 1 (g .device .mode) t)
+    by false t true u e = bad-toggle (g .device) (ltb-false 1 (g .device .mode) t) (ltb-true 1 (g .device .toggle) u)
+    by false t false u e = bad-recent (g .device) (ltb-false 1 (g .device .mode) t) (ltb-false 1 (g .device .toggle) u) (ltb-true 1 (g .device .recent) e)
 
 -- ---- the k-th write, and figures: as the functions and the C controller's have them
 kth-refuses : (part command address x k : ℕ)

@@ -8,7 +8,7 @@ use native.Mathlib.Omega.{arith}
 use borrow.Author.Tests.{eq-eqb, eqb-true, eqb-false}
 use lib.Dec.{eqb}
 use lib.Pow.{pow-add}
-use lib.ListN.{take, replicate}
+use lib.ListN.{length, take, replicate}
 use Rattle.parts.specs.Pick.{pick}
 use Rattle.parts.specs.Width.{valueOf}
 use Rattle.parts.specs.Table.{rowOf}
@@ -19,8 +19,12 @@ use Rattle.chip.specs.declared.device.Device.{Device}
 use Rattle.chip.specs.declared.device.Operation.{Operation}
 use Rattle.chip.specs.declared.cycle.Action.the-variants.{Read}
 use Rattle.chip.specs.declared.cycle.Cycle.{Cycle}
-use Rattle.chip.specs.Cycle.{cycle, Chip, chip, acceptedOf, cycleOf}
-use Rattle.chip.specs.Trace.{play, startedIn}
+use Rattle.chip.specs.declared.cycle.Reply.{Reply}
+use Rattle.chip.specs.Cycle.{cycle, Chip, chip, Outcome, cycleRefusal, acceptedOf, cycleOf}
+use Rattle.chip.specs.Trace.{after, play, startedBy, startedIn, uncutAction}
+use Rattle.chip.specs.Recent.{DifferButSeven, recentOnce, none}
+use Rattle.chip.proofs.Accepted.{accepted}
+use Rattle.chip.proofs.Recent.{recent-exactly, word-later, word-after-completion}
 use Rattle.chip.proofs.Started.{started-append, reads-start, one-read-starts}
 use Rattle.driver.specs.declared.machine.Driver.{Driver}
 use Rattle.driver.specs.declared.machine.Started.{Started}
@@ -36,7 +40,7 @@ use Rattle.driver.proofs.Asked.{asking, begun}
 use Rattle.driver.proofs.Theorems as Theorems
 use Rattle.bus.specs.Cycle.{high, deviceNumbers}
 use Rattle.bus.proofs.Back.{taken-numbers}
-use Rattle.demands.specs.Calls.{onBus, refusedCycle, toWrite, StepCall, ToStep, toStep, AsPromised, ToStart, toStart, refusedStart}
+use Rattle.demands.specs.Calls.{BusCall, OnBus, onBus, busLeft, refusedCycle, toWrite, StepCall, ToStep, toStep, AsPromised, ToStart, toStart, refusedStart}
 use Rattle.demands.specs.Demand2.{IdleUnprotected, StartedDriver, startAsked, operationAsked, polls, cyclesAtMost, ChipFor, firstNamed, talked, noRead, Demand2}
 use Rattle.numbers.specs.declared.machine.DriverNumbers.{DriverNumbers}
 use Rattle.numbers.specs.declared.machine.StartNumbers.{StartNumbers}
@@ -47,6 +51,54 @@ use Rattle.numbers.proofs.Back.{driver-back, step-of-driver, next-back}
 use Rattle.numbers.proofs.Loop.{loop-is-talk, hearing-is-heard}
 use Rattle.demands.specs.Controller.{StationStartCall, onStation}
 use Rattle.demands.proofs.Controller.{station-left}
+
+-- ---- a bus cycle, and a completion that is 0 µs old
+-- what a call on k hands back
+bus-left : (c : BusCall) (k : OnBus) → onBus c ≡ k → busLeft c ≡ cycleOf (k .part) (k .cells) (k .device) (k .cycle)
+bus-left c k q =
+    ap₂ {A = List ℕ} {B = Reply} {C = Outcome} (λ l r. record { cells = l; reply = r }) (c .promise .1) (c .promise .0)
+    ∙ ap (λ (k : OnBus). cycleOf (k .part) (k .cells) (k .device) (k .cycle)) q
+
+-- a call with its cycle written out
+with-cycle : (g : OnBus) (c : Cycle) → g .cycle ≡ c → g ≡ record { part = g .part; cells = g .cells; device = g .device; cycle = c }
+with-cycle g c q = ap (λ (x : Cycle). record { part = g .part; cells = g .cells; device = g .device; cycle = x }) q
+
+still-taken : (g : OnBus) (c : Cycle) → g .cycle ≡ c → refusedCycle g ≡ 0 → cycleRefusal (g .part) (length (g .cells)) (g .device) (c .action) ≡ 0
+still-taken g c q z = rw q at z
+
+differ-as : (w x y u v : ℕ) → x ≡ u → y ≡ v → DifferButSeven w u v → DifferButSeven w x y
+differ-as w x y u v p q d = rw (p, q) d
+
+exactly : (c : BusCall) → let g = onBus c in refusedCycle g ≡ 0
+    → busLeft c .reply .device .core .recent
+    ≡ pick (uncutAction (g .cycle .action)) (pick (none (startedBy (g .part) (chip (g .cells) (g .device)) (g .cycle))) (recentOnce (g .device .core) (g .cycle .elapsed)) false) false
+unfolding after
+exactly c z =
+    let g = onBus c in
+    ap (λ (o : Outcome). o .reply .device .core .recent) (bus-left c g refl)
+    ∙ recent-exactly (g .part) (chip (g .cells) (g .device)) (g .cycle) (accepted (g .part) (length (g .cells)) (g .device) (g .cycle .action) z)
+
+comes-later : (c e : BusCall) → let g = onBus c in refusedCycle g ≡ 0
+    → (a : ℕ) (u v : Bool) (t : ℕ) → g .device .core .recent ≡ true → g .cycle ≡ cycle 0 u (Read a)
+    → onBus e ≡ record { part = g .part; cells = g .cells; device = g .device; cycle = cycle t v (Read a) } → 0 < t
+    → DifferButSeven (rowOf (g .part) .width) (c .back .value) (e .back .value)
+comes-later c e z a u v t n gc hc some =
+    let g = onBus c in
+    differ-as (rowOf (g .part) .width) _ _ _ _ (ap (λ (o : Outcome). o .reply .value) (bus-left c _ (with-cycle g (cycle 0 u (Read a)) gc)))
+    (ap (λ (o : Outcome). o .reply .value) (bus-left e _ hc))
+    (word-later (g .part) (g .cells) (g .device) a (still-taken g (cycle 0 u (Read a)) gc z) n u v t some)
+
+comes-after : (c e : BusCall) → let g = onBus c in refusedCycle g ≡ 0
+    → (a s : ℕ) (u v : Bool) (t : ℕ) → 0 < s → g .device .core .running .left ≡ s → g .cycle ≡ cycle s u (Read a)
+    → onBus e ≡ record { part = g .part; cells = busLeft c .cells; device = busLeft c .reply .device; cycle = cycle t v (Read a) } → 0 < t
+    → DifferButSeven (rowOf (g .part) .width) (c .back .value) (e .back .value)
+comes-after c e z a s u v t some l gc hc later =
+    let g = onBus c in
+    let first = bus-left c _ (with-cycle g (cycle s u (Read a)) gc) in
+    differ-as (rowOf (g .part) .width) _ _ _ _ (ap (λ (o : Outcome). o .reply .value) first)
+    (ap (λ (o : Outcome). o .reply .value) (bus-left e _ hc)
+    ∙ ap (λ (o : Outcome). cycleOf (g .part) (o .cells) (o .reply .device) (cycle t v (Read a)) .reply .value) first)
+    (word-after-completion (g .part) (g .cells) (g .device) a s u (still-taken g (cycle s u (Read a)) gc z) some l t v later)
 
 -- ---- a command's writes together
 -- the first count of six places are the writes
@@ -254,10 +306,13 @@ from-C c accepted read w =
 
 -- ---- together
 pub demand-2 : Demand2
-unfolding cycleOf acceptedOf
+unfolding cycleOf acceptedOf confirmAfter
 demand-2 =
     record {
       cycle-acts = λ c accepted. rw (c .promise .0, c .promise .1, eq-eqb (refusedCycle (onBus c)) 0 accepted);
+      recent-exactly = exactly;
+      word-comes-later = comes-later;
+      word-comes-after-completion = comes-after;
       writes-run = λ c accepted cells d wp i. let g = toWrite c in
           rw (c .promise, places-are (g .part) (g .command) (g .address) (g .word) accepted)
           (Theorems.writes-start (g .part) (g .command) (g .address) (g .word) wp cells d accepted (i .whole) (i .rests) (i .heeded) .0);
@@ -265,6 +320,11 @@ demand-2 =
           rw (c .promise, places-are (g .part) (g .command) (g .address) (g .word) accepted)
           (Theorems.writes-start (g .part) (g .command) (g .address) (g .word) wp cells d accepted (i .whole) (i .rests) (i .heeded) .1);
       driver-starts = starts;
+      poll-shows-bit-7 = λ s h. let g = startAsked s in let i = h .ready in
+          Theorems.nth-poll-matches (g .part) (g .command) (g .address) (g .word) (g .p) (h .wp) (h .cells) (h .device) (s .accepted) (i .whole) (i .rests) (i .heeded);
+      confirm-shows-word = λ s h. let g = startAsked s in let i = h .ready in
+          Theorems.confirm-shows (g .part) (g .command) (g .address) (g .word) (g .p) (h .wp) (h .cells) (h .device) (s .accepted) (i .whole) (i .rests) (i .heeded);
+      confirm-carries = refl;
       driver-succeeds = λ s h same n enough. let g = startAsked s in let i = h .ready in
           alike s h n ∙ Theorems.succeeds (g .part) (g .command) (g .address) (g .word) (g .p) (h .wp) (h .cells) (h .device) (s .accepted) (i .whole) (i .rests) (i .heeded) same n (s .read) enough;
       driver-erases = λ s h e n enough. let g = startAsked s in let i = h .ready in

@@ -6,8 +6,10 @@ use mathlib.Core.List.{List, [], _∷_, _++_}
 use lib.Dec.{eqb}
 use Rattle.parts.specs.Pick.{pick}
 use Rattle.table.specs.Figures.{figureOf}
+use Rattle.chip.specs.declared.cycle.Action.the-variants.{Cut}
 use Rattle.chip.specs.declared.cycle.Cycle.{Cycle}
-use Rattle.demands.specs.Marked.{Cell, cell, Case, write, writeLow, read, idleFor, cut, arm, unlock}
+use Rattle.chip.specs.Cycle.{cycle}
+use Rattle.demands.specs.Marked.{Cell, cell, Case, write, writeLow, read, idleFor, cut, arm, armLow, unlock}
 
 -- ---- the part table once more: what a chip of the part has to show
 pub record Sheet : Type 0 where
@@ -51,17 +53,33 @@ on part fill cycles reads cells pending =
 abbrev pub identify : ℕ → ℕ → List Cycle
 identify u v = write u 0xaa ∷ write v 0x55 ∷ write u 0x90 ∷ []
 
--- identification at 0, 1, 2 and 256; a program that is busy a µs before its time and done then; a sector erase and a chip erase,
--- the same, and the cells around the sector
+-- bit 7 of a word
+abbrev pub seven : ℕ
+seven = 0x80
+
+-- a value with all the part's bits but 7 inverted, whose bit 7 is 0
+abbrev pub turned : Sheet → ℕ → ℕ
+turned s v = s .blank - v - seven
+
+-- identification at 0, 1, 2 and 256; a program that is busy a µs before its time and done then, its word read at that moment, again
+-- with no time between, and a µs later; a sector erase and a chip erase, the same, and the cells around the sector
 abbrev pub shown : Sheet → List Case
 shown s =
     on (s .part) 0 (identify (s .u1) (s .u2) ++ (read 0 0 ∷ read 0 1 ∷ read 0 2 ∷ read 0 256 ∷ [])) (0xbf ∷ s .device ∷ 0 ∷ 0 ∷ []) [] false
     ∷ on (s .part) (s .blank) (arm (s .u1) (s .u2) ++ (write 7 0x12 ∷ idleFor (s .program - 1) ∷ read 0 7 ∷ [])) (0x00c0 ∷ []) (cell 7 (s .blank) ∷ []) true
-    ∷ on (s .part) (s .blank) (arm (s .u1) (s .u2) ++ (write 7 0x12 ∷ idleFor (s .program - 1) ∷ read 1 7 ∷ [])) (0x12 ∷ []) (cell 7 0x12 ∷ []) false
+    ∷ on (s .part) (s .blank) (arm (s .u1) (s .u2) ++ (write 7 0x12 ∷ idleFor (s .program - 1) ∷ read 1 7 ∷ read 0 7 ∷ read 1 7 ∷ []))
+    (turned s 0x12 ∷ turned s 0x12 ∷ 0x12 ∷ [])
+    (cell 7 0x12 ∷ [])
+    false
     ∷ on (s .part) 0 (unlock (s .u1) (s .u2) ++ (write (s .sector + 5) (s .code) ∷ idleFor (s .erase - 1) ∷ read 0 0 ∷ [])) (0x0040 ∷ []) (cell (s .sector) 0 ∷ []) true
     ∷ on (s .part) 0 (unlock (s .u1) (s .u2) ++ (write (s .sector + 5) (s .code) ∷ idleFor (s .erase) ∷ []))
     []
     (cell (s .sector - 1) 0 ∷ cell (s .sector) (s .blank) ∷ cell (s .sector + s .sector - 1) (s .blank) ∷ cell (s .sector + s .sector) 0 ∷ [])
+    false
+    ∷ on (s .part) 0
+    (unlock (s .u1) (s .u2) ++ (write (s .sector + 5) (s .code) ∷ read (s .erase) (s .sector) ∷ read 0 0 ∷ read 1 (s .sector) ∷ read 0 0 ∷ []))
+    (seven ∷ turned s 0 ∷ s .blank ∷ 0 ∷ [])
+    []
     false
     ∷ on (s .part) 0 (unlock (s .u1) (s .u2) ++ (write (s .u1) 0x10 ∷ idleFor (s .chip - 1) ∷ read 0 0 ∷ [])) (0x0040 ∷ []) [] true
     ∷ on (s .part) 0 (unlock (s .u1) (s .u2) ++ (write (s .u1) 0x10 ∷ idleFor (s .chip) ∷ [])) [] [] false
@@ -136,7 +154,7 @@ sentences =
     ∷ on 0 0xffff (write 0x555 0xaa ∷ read 0 0 ∷ write 0x2aa 0x55 ∷ read 0 0 ∷ write 0x555 0xa0 ∷ read 0 0 ∷ write 7 0 ∷ read 0 7 ∷ []) (0xffff ∷ 0xffff ∷ 0xffff ∷ 0x00c0 ∷ []) [] true
     ∷ on 0 0xffff (write 0x555 0xaa ∷ write 0x2aa 0x55 ∷ write 0 0 ∷ write 0x555 0xa0 ∷ write 7 0 ∷ read 0 7 ∷ []) (0xffff ∷ []) [] false
     -- starting an operation ends identification mode, and so do F0H, a stray write and a cut at rest
-    ∷ on 0 0xffff (identify 0x555 0x2aa ++ (arm 0x555 0x2aa ++ (write 7 0 ∷ read 1 0 ∷ read 13 0 ∷ []))) (0x00c0 ∷ 0xffff ∷ []) [] false
+    ∷ on 0 0xffff (identify 0x555 0x2aa ++ (arm 0x555 0x2aa ++ (write 7 0 ∷ read 1 0 ∷ read 14 0 ∷ []))) (0x00c0 ∷ 0xffff ∷ []) [] false
     ∷ on 0 0xffff (identify 0x555 0x2aa ++ (write 0x555 0xaa ∷ write 0x2aa 0x55 ∷ write 0x555 0xf0 ∷ read 0 0 ∷ [])) (0xffff ∷ []) [] false
     ∷ on 0 0xffff (identify 0x555 0x2aa ++ (write 9 0xf0 ∷ read 0 0 ∷ [])) (0xffff ∷ []) [] false
     ∷ on 0 0xffff (identify 0x555 0x2aa ++ (cut 0 ∷ read 0 0 ∷ [])) (0xffff ∷ []) [] false
@@ -154,4 +172,31 @@ sentences =
     ∷ on 7 0 (unlock 0x5555 0x2aaa ++ (write 40000 0x30 ∷ idleFor 36000 ∷ [])) [] (cell 38911 0 ∷ cell 38912 0xffff ∷ cell 40959 0xffff ∷ cell 40960 0 ∷ []) false
     -- on an eight-bit part a cut uses the scar's low eight bits
     ∷ on 3 0x34 (unlock 0x5555 0x2aaa ++ (write 7 0x30 ∷ cut 0xab0f ∷ [])) [] (cell 0 0x3f ∷ cell 4095 0x3f ∷ cell 4096 0x34 ∷ []) false
+    ∷ []
+
+-- ---- document 02, Wish 1: the word comes a microsecond after bit 7
+-- a program of 1234H at 7 on part 5, which takes 14 µs, and what follows
+abbrev pub programming : List Cycle → List Cycle
+programming cs = arm 0x5555 0x2aaa ++ (write 7 0x1234 ∷ cs)
+
+abbrev pub words : List Case
+words =
+    -- read 0 µs after completion, and 1 µs later; on an eight-bit part, too
+    on 5 0xffff (programming (read 14 7 ∷ read 1 7 ∷ [])) (0xed4b ∷ 0x1234 ∷ []) (cell 7 0x1234 ∷ []) false
+    ∷ on 3 0xff (arm 0x5555 0x2aaa ++ (write 7 0x34 ∷ read 14 7 ∷ read 1 7 ∷ [])) (0x4b ∷ 0x34 ∷ []) (cell 7 0x34 ∷ []) false
+    -- with more time than was left it is never seen
+    ∷ on 5 0xffff (programming (read 15 7 ∷ read 0 7 ∷ [])) (0x1234 ∷ 0x1234 ∷ []) [] false
+    -- cycles with 0 µs keep it: reads at any address, idle ones, stray writes, a sequence begun; any time ends it
+    ∷ on 5 0xffff (programming (idleFor 14 ∷ read 0 8 ∷ idleFor 0 ∷ read 0 7 ∷ [])) (0x0080 ∷ 0xed4b ∷ []) [] false
+    ∷ on 5 0xffff (programming (idleFor 14 ∷ write 0 0 ∷ read 0 7 ∷ write 0x5555 0xaa ∷ read 0 7 ∷ read 1 7 ∷ [])) (0xed4b ∷ 0xed4b ∷ 0x1234 ∷ []) [] false
+    ∷ on 5 0xffff (programming (idleFor 14 ∷ idleFor 1 ∷ read 0 7 ∷ [])) (0x1234 ∷ []) [] false
+    -- in identification mode the codes are inverted
+    ∷ on 5 0xffff (programming (idleFor 14 ∷ (identify 0x5555 0x2aaa ++ (read 0 0 ∷ read 0 1 ∷ read 0 2 ∷ read 1 0 ∷ [])))) (0xffc0 ∷ 0xd8ff ∷ 0xff7f ∷ 0xbf ∷ []) [] false
+    -- an ignored command keeps it, too
+    ∷ on 0 0xffff (arm 0x555 0x2aa ++ (write 4096 0x1234 ∷ idleFor 14 ∷ (armLow 0x555 0x2aa ++ (writeLow 7 0 ∷ read 0 4096 ∷ [])))) (0xed4b ∷ []) (cell 7 0xffff ∷ []) false
+    -- writes are taken as before, and a start ends it
+    ∷ on 5 0xffff (programming (idleFor 14 ∷ (arm 0x5555 0x2aaa ++ (write 8 0 ∷ read 0 7 ∷ read 15 8 ∷ [])))) (0x00c0 ∷ 0 ∷ []) (cell 7 0x1234 ∷ cell 8 0 ∷ []) false
+    -- a cut finds the operation complete, and ends it
+    ∷ on 5 0xffff (programming (cycle 14 true (Cut 0x00ff) ∷ read 0 7 ∷ [])) (0x1234 ∷ []) (cell 7 0x1234 ∷ []) false
+    ∷ on 5 0xffff (programming (idleFor 14 ∷ cut 0x00ff ∷ read 0 7 ∷ [])) (0x1234 ∷ []) (cell 7 0x1234 ∷ []) false
     ∷ []

@@ -2,14 +2,15 @@
 -- state and cells; each command that the driver issues to an idle, unprotected chip starts that operation and no other. And
 -- the driver answers after a stated number of cycles, whatever the chip replies, and by a number that says what was replied;
 -- and takes of the value that it is given what document 01 says.
-use Prim.Native.Nat.{ℕ, _+_, _*_, _^_, _≤_, _<_}
+use Prim.Native.Nat.{ℕ, _+_, _-_, _*_, _^_, _≤_, _<_}
 use mathlib.Core.Path.{_≡_}
 use mathlib.Core.Bool.{Bool, true, false}
 use mathlib.Core.List.{List, [], _∷_}
 use lib.Dec.{eqb}
-use lib.ListN.{length, getD, take}
+use lib.ListN.{length, getD, take, replicate}
 use lib.Bits.{bitAnd}
 use Rattle.parts.specs.Names.{PROGRAM}
+use Rattle.parts.specs.Pick.{pick}
 use Rattle.parts.specs.Width.{valueOf}
 use Rattle.parts.specs.Table.{rowOf}
 use Rattle.parts.specs.Time.{pollsOf}
@@ -17,14 +18,16 @@ use Rattle.chip.specs.declared.device.Device.{Device}
 use Rattle.chip.specs.declared.device.Operation.{Operation}
 use Rattle.chip.specs.Device.{busyWith, device, freshDevice, idle}
 use Rattle.chip.specs.Sequence.{ignored}
-use Rattle.chip.specs.Cycle.{chip, afterTime, actedOf}
-use Rattle.chip.specs.Trace.{play, startedIn}
+use Rattle.chip.specs.declared.cycle.Action.the-variants.{Read}
+use Rattle.chip.specs.Cycle.{cycle, Chip, chip, afterTime, actedOf}
+use Rattle.chip.specs.Trace.{play, startedBy, startedIn, uncutAction}
+use Rattle.chip.specs.Recent.{DifferButSeven, recentOnce, none}
 use Rattle.driver.specs.declared.machine.Phase.{Phase}
 use Rattle.driver.specs.declared.machine.Phase.the-variants.{Writing, Polling, Confirming, Done, GaveUp, Differs}
 use Rattle.driver.specs.declared.machine.Step.{Step}
-use Rattle.driver.specs.Writes.{writeCount}
-use Rattle.driver.specs.Machine.{valueWanted, begun, moved, ended, stepOf}
-use Rattle.driver.specs.Talk.{Stepping, writeCycles, operationCycles, operationOf, completed, shownAfter, Told, told, talk, heard}
+use Rattle.driver.specs.Writes.{writesOf, writeCount}
+use Rattle.driver.specs.Machine.{addressOf, bitSeven, valueWanted, begun, moved, confirmAfter, ended, stepOf}
+use Rattle.driver.specs.Talk.{Stepping, writeCycles, operationCycles, operationOf, completed, shownAfter, shows, Told, told, talk, heard}
 use Rattle.driver.specs.Endings.{MustRaise, MustRaiseSeven, Ended, Meaning}
 use Rattle.bus.specs.Cycle.{high, deviceNumbers}
 use Rattle.demands.specs.Calls.{BusCall, onBus, busLeft, refusedCycle, WritesCall, toWrite, refusedWrites, StartCall, ToStart, toStart, refusedStart, StepCall, toStep, AsPromised}
@@ -104,12 +107,44 @@ noRead Done n = true
 noRead GaveUp n = true
 noRead Differs n = true
 
+-- the chip after its writes and n polls; the n-th poll is the read of its address that follows n - 1
+abbrev pub afterPolls : (g : ToStart) → ChipFor g → ℕ → Chip
+afterPolls g h n =
+    play (g .part)
+    (play (g .part) (chip (h .cells) (h .device)) (writeCycles (h .wp) (writesOf (rowOf (g .part)) (g .command) (g .address) (g .word))))
+    (replicate n (cycle (g .p) (h .wp) (Read (addressOf (g .command) (g .address)))))
+
+-- what a read of its address shows on a chip, some time after the last cycle
+abbrev pub readAfter : (g : ToStart) → ChipFor g → ℕ → Chip → ℕ
+readAfter g h e k = shows (g .part) k (cycle e (h .wp) (Read (addressOf (g .command) (g .address))))
+
+-- the word at its address once the operation has completed
+abbrev pub wordAfter : (g : ToStart) → ChipFor g → ℕ
+wordAfter g h = shownAfter (rowOf (g .part)) (g .command) (g .address) (g .word) (h .cells)
+
 pub record Demand2 : Type 0 where
   -- Of a bus cycle that is not refused, first time passes (`afterTime`), then the cycle acts (`actedOf`): that gives the
   -- value, the state and the cells.
   pub cycle-acts : (c : BusCall) → let g = onBus c in refusedCycle g ≡ 0
       → let r = rowOf (g .part) in
       busLeft c ≡ actedOf r (afterTime r (chip (g .cells) (g .device)) (g .cycle .elapsed)) (g .cycle .wp) (g .cycle .action)
+  -- After such a cycle a completion is 0 µs old exactly where the cycle cut no power and started nothing, and carried just the
+  -- time that was left of what ran, or none where a completion was 0 µs old before (document 02, Wish 1).
+  pub recent-exactly : (c : BusCall) → let g = onBus c in refusedCycle g ≡ 0
+      → let h = chip (g .cells) (g .device) in
+      busLeft c .reply .device .core .recent
+      ≡ pick (uncutAction (g .cycle .action)) (pick (none (startedBy (g .part) h (g .cycle))) (recentOnce (g .device .core) (g .cycle .elapsed)) false) false
+  -- A read with 0 µs passed since completion differs from one with some time passed in all the part's bits but 7, and in no
+  -- other: two reads of an address from one state in which a completion is 0 µs old, whatever its stage and mode;
+  pub word-comes-later : (c e : BusCall) → let g = onBus c in let h = onBus e in refusedCycle g ≡ 0
+      → (a : ℕ) (u v : Bool) (t : ℕ) → g .device .core .recent ≡ true → g .cycle ≡ cycle 0 u (Read a)
+      → h ≡ record { part = g .part; cells = g .cells; device = g .device; cycle = cycle t v (Read a) } → 0 < t
+      → DifferButSeven (rowOf (g .part) .width) (c .back .value) (e .back .value)
+  -- and the read in which an operation completes with just the time that was left, and the next one, some time later.
+  pub word-comes-after-completion : (c e : BusCall) → let g = onBus c in let h = onBus e in refusedCycle g ≡ 0
+      → (a s : ℕ) (u v : Bool) (t : ℕ) → 0 < s → g .device .core .running .left ≡ s → g .cycle ≡ cycle s u (Read a)
+      → h ≡ record { part = g .part; cells = busLeft c .cells; device = busLeft c .reply .device; cycle = cycle t v (Read a) } → 0 < t
+      → DifferButSeven (rowOf (g .part) .width) (c .back .value) (e .back .value)
   -- A command's writes, sent at 0 µs, leave the cells as they were and the device running the operation asked for, with its
   -- whole table time left.
   pub writes-run : (c : WritesCall) → let g = toWrite c in refusedWrites g ≡ 0
@@ -125,6 +160,13 @@ pub record Demand2 : Type 0 where
   pub driver-starts : (s : StartedDriver) → let g = startAsked s in (h : ChipFor g)
       → (n : ℕ) → cyclesAtMost g ≤ n
       → startedIn (g .part) (chip (h .cells) (h .device)) (talked s h n .cycles) ≡ operationAsked g ∷ []
+  -- There the N-th poll shows bit 7 of the word at its address, whether or not the word's other bits are there yet; and the
+  -- confirming read, which carries 1 µs, shows the word.
+  pub poll-shows-bit-7 : (s : StartedDriver) → let g = startAsked s in (h : ChipFor g)
+      → bitSeven (readAfter g h (g .p) (afterPolls g h (polls g - 1))) ≡ bitSeven (wordAfter g h)
+  pub confirm-shows-word : (s : StartedDriver) → let g = startAsked s in (h : ChipFor g)
+      → readAfter g h 1 (afterPolls g h (polls g)) ≡ wordAfter g h
+  pub confirm-carries : confirmAfter ≡ 1
   -- There, where the cell shows the wanted value once the operation has completed, it ends with 0 after N polls:
   pub driver-succeeds : (s : StartedDriver) → let g = startAsked s in (h : ChipFor g)
       → shownAfter (rowOf (g .part)) (g .command) (g .address) (g .word) (h .cells)

@@ -1,4 +1,4 @@
--- The marked cases of document 01, as one list.
+-- The marked cases of document 01, as one list; the two bills are those of document 02, Wish 1, and reads come at least 1 µs after a completion.
 use Prim.Native.Nat.{ℕ}
 use mathlib.Core.Bool.{Bool, true, false, not}
 use mathlib.Core.List.{List, [], _∷_, _++_}
@@ -159,7 +159,21 @@ case-3-done =
       part = 5;
       fill = 0xffff;
       but = [];
-      cycles = arm 0x5555 0x2aaa ++ (write 7 0x1234 ∷ read 14 7 ∷ []);
+      cycles = arm 0x5555 0x2aaa ++ (write 7 0x1234 ∷ idleFor 14 ∷ []);
+      reads = [];
+      ranges = [];
+      cells = cell 7 0x1234 ∷ [];
+      pending = false;
+    }
+
+-- 3: and the word is read a µs later
+abbrev pub case-3-read : Case
+case-3-read =
+    record {
+      part = 5;
+      fill = 0xffff;
+      but = [];
+      cycles = arm 0x5555 0x2aaa ++ (write 7 0x1234 ∷ read 15 7 ∷ []);
       reads = 0x1234 ∷ [];
       ranges = [];
       cells = cell 7 0x1234 ∷ [];
@@ -215,7 +229,7 @@ case-6 =
       part = 9;
       fill = 0xffff;
       but = [];
-      cycles = arm 0x5555 0x2aaa ++ (write 7 0x1234 ∷ read 7 7 ∷ []);
+      cycles = arm 0x5555 0x2aaa ++ (write 7 0x1234 ∷ read 8 7 ∷ []);
       reads = 0x1234 ∷ [];
       ranges = [];
       cells = cell 7 0x1234 ∷ [];
@@ -300,8 +314,8 @@ case-10 =
       sixth = 0x1234;
       bill =
           record {
-            saved = 58940;
-            spent = 20;
+            saved = 60988;
+            spent = 21;
             erases = 0;
             programs = 1;
             polls = 2;
@@ -320,8 +334,8 @@ case-11 =
       sixth = 0x1235;
       bill =
           record {
-            saved = 40940;
-            spent = 18020;
+            saved = 42987;
+            spent = 18022;
             erases = 1;
             programs = 1;
             polls = 1802;
@@ -344,6 +358,7 @@ cases =
     ∷ Bus case-2
     ∷ Bus case-3-busy
     ∷ Bus case-3-done
+    ∷ Bus case-3-read
     ∷ Bus case-4-programming
     ∷ Bus case-4-erasing
     ∷ Bus case-5

@@ -95,12 +95,15 @@ starts =
     ∷ []
 
 -- ---- a bus cycle: 1, 2, 5, 3 (read or write), 4 (write)
--- a device at rest at a stage; and one on which a command runs, in a mode, at a stage
+-- a device at rest at a stage; one on which a command runs, in a mode, at a stage; and either of them with a completion 0 µs old
 abbrev pub atStage : ℕ → Device
-atStage s = device (core ReadMode (operation 0 0 0 0 false)) s
+atStage s = device (core ReadMode (operation 0 0 0 0 false) false) s
 
 abbrev pub running : Mode → ℕ → ℕ → ℕ → ℕ → ℕ → Device
-running m k a x left s = device (core m (operation k a x left true)) s
+running m k a x left s = device (core m (operation k a x left true) false) s
+
+abbrev pub recentAt : Mode → ℕ → ℕ → Device
+recentAt m left s = device (core m (operation 0 7 0xff left true) true) s
 
 abbrev pub cycles : List Answered
 cycles =
@@ -128,6 +131,13 @@ cycles =
     ∷ says 5 (Cycle 3 524288 (running Identification 0 7 0 1 0) Idle)
     ∷ says 5 (Cycle 3 524288 (running ReadMode 0 7 0 1 1) Idle)
     ∷ says 0 (Cycle 3 524288 (running Identification 9 0xffffffff 0xffff 0 6) Idle)
+    -- a completion 0 µs old at any stage and in any mode; beside what runs there is none
+    ∷ says 0 (Cycle 3 524288 (recentAt ReadMode 0 0) (Read 524287))
+    ∷ says 0 (Cycle 3 524288 (recentAt Identification 0 6) (Cut 0xffff))
+    ∷ says 5 (Cycle 3 524288 (recentAt ReadMode 0 7) Idle)
+    ∷ says 5 (Cycle 3 524288 (recentAt ReadMode 1 0) Idle)
+    ∷ says 5 (Cycle 3 524288 (recentAt ReadMode 14 0) (Read 524288))
+    ∷ says 3 (Cycle 3 524288 (recentAt Identification 0 6) (Read 524288))
     -- 3 and 4 are given busy or not
     ∷ says 3 (Cycle 3 524288 (running ReadMode 0 7 0 1 0) (Read 524288))
     ∷ []

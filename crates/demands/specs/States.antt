@@ -96,30 +96,38 @@ steps =
     ∷ gives 5 (Step (programs 0 6 1))
     ∷ []
 
--- ---- a device: mode, stage; kind, address, data, time left, toggle
-abbrev pub stands : ℕ → ℕ → ℕ → ℕ → ℕ → ℕ → ℕ → DeviceNumbers
-stands mode stage kind a x left toggle = record { mode = mode; stage = stage; kind = kind; address = a; «data» = x; left = left; toggle = toggle }
+-- ---- a device: mode, stage; kind, address, data, time left, toggle; recent completion
+abbrev pub stands : ℕ → ℕ → ℕ → ℕ → ℕ → ℕ → ℕ → ℕ → DeviceNumbers
+stands mode stage kind a x left toggle recent =
+    record { mode = mode; stage = stage; kind = kind; address = a; «data» = x; left = left; toggle = toggle; recent = recent }
 
 abbrev pub cycles : List Expected
 cycles =
-    gives 0 (Bus 0 8192 (stands 0 0 0 0 0 0 0) 1 Idle)
-    ∷ gives 1 (Bus 11 8191 (stands 2 7 4 0xffffffff 0xffff 0xffffffff 2) 0xffffffff (Write 0xffffffff 0xffff))
-    ∷ gives 2 (Bus 0 8191 (stands 2 7 4 0xffffffff 0xffff 0xffffffff 2) 0xffffffff (Write 0xffffffff 0xffff))
-    ∷ gives 5 (Bus 0 8192 (stands 2 7 4 0xffffffff 0xffff 0xffffffff 2) 0xffffffff (Write 0xffffffff 0xffff))
-    -- a mode, a toggle, a stage
-    ∷ gives 5 (Bus 0 8192 (stands 2 0 0 0 0 0 0) 1 (Write 0xffffffff 0))
-    ∷ gives 3 (Bus 0 8192 (stands 1 0 0 0 0 0 0) 1 (Write 8192 0))
-    ∷ gives 5 (Bus 0 8192 (stands 0 0 0 0 0 0 2) 1 (Read 0xffffffff))
-    ∷ gives 3 (Bus 0 8192 (stands 0 0 0 0 0 0 1) 1 (Read 8192))
-    ∷ gives 5 (Bus 0 8192 (stands 0 7 0 0 0 0 0) 1 (Cut 0xffff))
-    ∷ gives 0 (Bus 0 8192 (stands 1 6 0 0 0 0 1) 1 (Cut 0xffff))
+    gives 0 (Bus 0 8192 (stands 0 0 0 0 0 0 0 0) 1 Idle)
+    ∷ gives 1 (Bus 11 8191 (stands 2 7 4 0xffffffff 0xffff 0xffffffff 2 0) 0xffffffff (Write 0xffffffff 0xffff))
+    ∷ gives 2 (Bus 0 8191 (stands 2 7 4 0xffffffff 0xffff 0xffffffff 2 0) 0xffffffff (Write 0xffffffff 0xffff))
+    ∷ gives 5 (Bus 0 8192 (stands 2 7 4 0xffffffff 0xffff 0xffffffff 2 0xffffffff) 0xffffffff (Write 0xffffffff 0xffff))
+    -- a mode, a toggle, a recent completion, a stage
+    ∷ gives 5 (Bus 0 8192 (stands 2 0 0 0 0 0 0 0) 1 (Write 0xffffffff 0))
+    ∷ gives 3 (Bus 0 8192 (stands 1 0 0 0 0 0 0 0) 1 (Write 8192 0))
+    ∷ gives 5 (Bus 0 8192 (stands 0 0 0 0 0 0 2 0) 1 (Read 0xffffffff))
+    ∷ gives 3 (Bus 0 8192 (stands 0 0 0 0 0 0 1 0) 1 (Read 8192))
+    ∷ gives 5 (Bus 0 8192 (stands 0 0 0 0 0 0 0 2) 1 (Read 0xffffffff))
+    ∷ gives 3 (Bus 0 8192 (stands 0 0 0 0 0 0 0 1) 1 (Read 8192))
+    ∷ gives 1 (Bus 11 8191 (stands 0 0 0 0 0 0 0 2) 1 Idle)
+    ∷ gives 2 (Bus 0 8191 (stands 0 0 0 0 0 0 0 2) 1 Idle)
+    ∷ gives 5 (Bus 0 8192 (stands 0 7 0 0 0 0 0 0) 1 (Cut 0xffff))
+    ∷ gives 0 (Bus 0 8192 (stands 1 6 0 0 0 0 1 0) 1 (Cut 0xffff))
     -- with no time left nothing of an operation counts but the toggle; with time left, all of it
-    ∷ gives 0 (Bus 0 8192 (stands 1 6 0xffffffff 0xffffffff 0xffff 0 1) 0 Idle)
-    ∷ gives 5 (Bus 0 8192 (stands 0 0 4 7 0 1 1) 0 Idle)
-    ∷ gives 5 (Bus 0 8192 (stands 0 0 0 8192 0 1 1) 0 Idle)
-    ∷ gives 0 (Bus 0 8192 (stands 0 0 0 8191 0 1 1) 0 Idle)
-    ∷ gives 5 (Bus 0 8192 (stands 1 0 0 8191 0 1 1) 0 Idle)
-    ∷ gives 5 (Bus 0 8192 (stands 0 1 0 8191 0 1 1) 0 Idle)
+    ∷ gives 0 (Bus 0 8192 (stands 1 6 0xffffffff 0xffffffff 0xffff 0 1 0) 0 Idle)
+    ∷ gives 5 (Bus 0 8192 (stands 0 0 4 7 0 1 1 0) 0 Idle)
+    ∷ gives 5 (Bus 0 8192 (stands 0 0 0 8192 0 1 1 0) 0 Idle)
+    ∷ gives 0 (Bus 0 8192 (stands 0 0 0 8191 0 1 1 0) 0 Idle)
+    ∷ gives 5 (Bus 0 8192 (stands 1 0 0 8191 0 1 1 0) 0 Idle)
+    ∷ gives 5 (Bus 0 8192 (stands 0 1 0 8191 0 1 1 0) 0 Idle)
+    -- a completion 0 µs old, at rest and beside what runs
+    ∷ gives 0 (Bus 0 8192 (stands 1 6 0 0 0 0 0 1) 0 Idle)
+    ∷ gives 5 (Bus 0 8192 (stands 0 0 0 8191 0 1 1 1) 0 Idle)
     ∷ []
 
 -- ---- a begin: 1, 10, 6, 7, 8, 9; WP# is high at any level but 0

@@ -1,12 +1,12 @@
 -- A driver's talk with the model: the writes, the polls while the operation runs and once it has completed, and the end.
 use Prim.Native.Nat.{ℕ, zero, suc, zero-le, _+_, _-_, _*_, _/_, _%_, _≤_, _<_}
-use mathlib.Core.Path.{_≡_, refl, sym, ap, _∙_}
+use mathlib.Core.Path.{_≡_, refl, sym, ap, subst, _∙_}
 use mathlib.Core.Bool.{Bool, true, false, not}
 use mathlib.Core.List.{List, [], _∷_, _++_, append-nil}
 use native.Mathlib.Nat.{suc-mul, one-mul, zero-mul, not-suc-le-zero, le-of-suc-le-suc}
 use native.Mathlib.Numerals.{add-one}
 use native.Mathlib.Omega.{arith}
-use borrow.Author.Tests.{lt-ltb, le-ltb, le-leb, ne-eqb, eqb-false}
+use borrow.Author.Tests.{lt-ltb, le-ltb, le-leb, eq-eqb, ne-eqb, eqb-true, eqb-false}
 use lib.Dec.{eqb, ltb}
 use lib.ListN.{length, getD, drop, replicate, replicate-append-replicate}
 use Rattle.parts.specs.Pick.{pick}
@@ -16,7 +16,7 @@ use Rattle.parts.specs.Time.{timeOf, pollsOf}
 use Rattle.parts.specs.declared.table.Row.{Row}
 use Rattle.parts.proofs.Every.{split}
 use Rattle.parts.proofs.Values.{value-value}
-use Rattle.parts.proofs.Sound.{cells-some, time-some}
+use Rattle.parts.proofs.Sound.{width-least, cells-some, time-some}
 use Rattle.parts.proofs.Rounding.{reaches, below, positive}
 use Rattle.chip.specs.declared.device.Operation.{Operation}
 use Rattle.chip.specs.declared.device.Core.{Core}
@@ -27,13 +27,14 @@ use Rattle.chip.specs.declared.cycle.Cycle.{Cycle}
 use Rattle.chip.specs.Device.{operation, busyWith, atRest, busy, device, coreIdle}
 use Rattle.chip.specs.Operation.{cellsOf, completeOn}
 use Rattle.chip.specs.Sequence.{ignored}
-use Rattle.chip.specs.Cycle.{cycle, Chip, chip, Outcome, outcome, cycleOf, status, bit6}
+use Rattle.chip.specs.Cycle.{cycle, Chip, chip, Outcome, outcome, cycleOf, status, bit6, outputsOf}
 use Rattle.chip.specs.Trace.{leaves, after, play, startedBy, startedIn}
 use Rattle.chip.proofs.Accepted.{Valid, inside-cells}
 use Rattle.chip.proofs.Settled.{complete-length}
-use Rattle.chip.proofs.Idle.{idle-rests, idle-again}
+use Rattle.chip.proofs.Idle.{idle-rests}
+use Rattle.chip.proofs.Outputs.{keeps-seven}
 use Rattle.chip.proofs.Started.{last-starts-all, Leads}
-use Rattle.chip.proofs.Cases.{read-idle, read-busy, read-done}
+use Rattle.chip.proofs.Cases.{read-later, read-busy, read-done}
 use Rattle.commands.specs.declared.write.Write.{Write}
 use Rattle.driver.specs.declared.machine.Phase.{Phase}
 use Rattle.driver.specs.declared.machine.Phase.the-variants.{Writing, Polling, Confirming, Done, GaveUp, Differs}
@@ -51,6 +52,14 @@ use Rattle.driver.proofs.Asked.{Begun, begun}
 use Rattle.driver.proofs.Ready.{write-count-some}
 use Rattle.driver.proofs.Steps.{goes, most}
 use Rattle.driver.proofs.Commands.{command-le, last-there, last-fits, command-leads}
+
+-- two tests that hold together
+same-test : (a b c d : ℕ) → (a ≡ b → c ≡ d) → (c ≡ d → a ≡ b) → eqb a b ≡ eqb c d
+same-test a b c d f g = by (eqb c d) refl
+  where
+    by : (t : Bool) → eqb c d ≡ t → eqb a b ≡ t
+    by true e = eq-eqb a b (g (eqb-true c d e))
+    by false e = ne-eqb a b (λ q. eqb-false c d e (f q))
 
 -- cycles in front of a talk
 abbrev pub sent : List Cycle → Told → Told
@@ -75,6 +84,11 @@ drop-done wp [] zero h = refl
 drop-done wp [] (suc k) h = refl
 drop-done wp (w ∷ ws) zero h = absurd (not-suc-le-zero h)
 drop-done wp (w ∷ ws) (suc k) h = drop-done wp ws k (le-of-suc-le-suc h)
+
+-- n cycles of a kind and one more
+play-last : (part n : ℕ) (h : Chip) (c : Cycle) → play part h (replicate (suc n) c) ≡ after part (play part h (replicate n c)) c
+play-last part zero h c = refl
+play-last part (suc n) h c = play-last part n (after part h c) c
 
 -- ---- a talk, turn by turn
 pub silent : {A : Type 0} (e : ℕ) (a : Action) → Nothing ≡ Send e a → A
@@ -251,11 +265,23 @@ module _ (b : Driver) (accepted : startRefusal (b .part) (b .command) (b .addres
     abbrev shown : ℕ
     shown = valueOf (r .width) (getD done at 0)
 
-    abbrev finished : Core
-    finished = atRest (busyWith core (operationOf r (b .command) (b .address) (b .«data»)))
+    -- at rest, the completion being 0 µs old or not: the chip, and what a read shows
+    abbrev finished : Bool → Core
+    finished now = atRest (busyWith core (operationOf r (b .command) (b .address) (b .«data»))) now
+
+    abbrev restedAt : Bool → Chip
+    restedAt now = chip done (device (finished now) 0)
 
     abbrev rested : Chip
-    rested = chip done (device finished 0)
+    rested = restedAt false
+
+    abbrev shownAt : Bool → ℕ
+    shownAt now = outputsOf (r .width) now shown
+
+    -- bit 7 is the word's in either case
+    same-hit : (now : Bool) → hits (shownAt now) ≡ hits shown
+    same-hit true = ap (λ (n : ℕ). eqb n (bitWanted (b .command) (b .«data»))) (keeps-seven (r .width) (width-least (b .part) known) shown)
+    same-hit false = refl
 
     abbrev busyAt : ℕ → Bool → Device
     busyAt l t = device (busyWith core (running l t)) 0
@@ -268,12 +294,26 @@ module _ (b : Driver) (accepted : startRefusal (b .part) (b .command) (b .addres
           there = last-there (b .part) known (b .command) (b .address) (b .«data») (valid .asked .target);
           fits = last-fits (b .part) known (b .command) (b .address) (b .«data») (valid .asked .target);
           mode = refl;
+          old = refl;
         }
 
     -- what completes does not hang on the time left, nor on bit 6
     same-done : (l : ℕ) (t : Bool) → completeOn r (running l t) cells ≡ done
     unfolding completeOn cellsOf
     same-done l t = refl
+
+    -- the read in which it completes
+    read-completes : (l : ℕ) (t : Bool) → 0 < l → l ≤ b .p → l ≤ timeOf r (b .command)
+        → cycleOf (b .part) cells (busyAt l t) poll ≡ outcome done (shownAt (eqb (b .p) l)) (device (finished (eqb (b .p) l)) 0)
+    read-completes l t some late most-time =
+        read-done (b .part) cells known whole at at-there (busyWith core (running l t)) (b .p) wp (running-valid l t most-time) some late
+        ∙ ap (λ (xs : List ℕ). outcome xs (outputsOf (r .width) (eqb (b .p) l) (valueOf (r .width) (getD xs at 0))) (device (finished (eqb (b .p) l)) 0)) (same-done l t)
+
+    -- one poll less, and as much less is left
+    just-less : (k l : ℕ) (now : Bool) → b .p ≤ l → eqb (suc (suc k) * b .p) l ≡ now → eqb (suc k * b .p) (l - b .p) ≡ now
+    just-less k l now h just =
+        let e : suc (suc k) * b .p ≡ suc k * b .p + b .p = suc-mul (suc k) (b .p) in
+        same-test (suc k * b .p) (l - b .p) (suc (suc k) * b .p) l (λ q. omega arith) (λ q. omega arith) ∙ just
 
     waiting : (l q n : ℕ) (t : Bool) → b .p < l → l ≤ timeOf r (b .command) → q + 1 < most b
         → talk stepOf (b .part) wp (suc n) (polls (moved b Polling q)) (chip cells (busyAt l t))
@@ -286,34 +326,35 @@ module _ (b : Driver) (accepted : startRefusal (b .part) (b .command) (b .addres
 
     completing : (l q n : ℕ) (t : Bool) → 0 < l → l ≤ b .p → l ≤ timeOf r (b .command)
         → talk stepOf (b .part) wp (suc n) (polls (moved b Polling q)) (chip cells (busyAt l t))
-        ≡ led poll (talk stepOf (b .part) wp n (stepOf (moved b Polling (q + 1)) shown) rested)
+        ≡ led poll (talk stepOf (b .part) wp n (stepOf (moved b Polling (q + 1)) (shownAt (eqb (b .p) l))) (restedAt (eqb (b .p) l)))
     completing l q n t some late most-time =
-        sends (b .part) wp n 0 (b .p) (q + 1) (moved b Polling (q + 1)) (Read at) (chip cells (busyAt l t)) _
-        (read-done (b .part) cells known whole at at-there (busyWith core (running l t)) (b .p) wp (running-valid l t most-time) some late)
-        ∙ ap (λ (xs : List ℕ). led poll (talk stepOf (b .part) wp n (stepOf (moved b Polling (q + 1)) (valueOf (r .width) (getD xs at 0))) (chip xs (device finished 0)))) (same-done l t)
+        sends (b .part) wp n 0 (b .p) (q + 1) (moved b Polling (q + 1)) (Read at) (chip cells (busyAt l t)) _ (read-completes l t some late most-time)
 
-    -- k polls come too early, and one more does not
-    polling : (k l q n m : ℕ) (t : Bool) → k * b .p < l → l ≤ suc k * b .p → l ≤ timeOf r (b .command) → q + suc k ≤ most b → n ≡ suc k + m
+    -- k polls come too early, and one more does not: it comes 0 µs after the completion where it has taken just what was left
+    polling : (k l q n m : ℕ) (t now : Bool) → k * b .p < l → l ≤ suc k * b .p → eqb (suc k * b .p) l ≡ now → l ≤ timeOf r (b .command) → q + suc k ≤ most b → n ≡ suc k + m
         → talk stepOf (b .part) wp n (polls (moved b Polling q)) (chip cells (busyAt l t))
-        ≡ sent (replicate (suc k) poll) (talk stepOf (b .part) wp m (stepOf (moved b Polling (q + suc k)) shown) rested)
-    polling k l q zero m t early enough most-time within fuel = absurd (omega arith)
-    polling zero l q (suc n) m t early enough most-time within fuel =
+        ≡ sent (replicate (suc k) poll) (talk stepOf (b .part) wp m (stepOf (moved b Polling (q + suc k)) (shownAt now)) (restedAt now))
+    polling k l q zero m t now early enough just most-time within fuel = absurd (omega arith)
+    polling zero l q (suc n) m t now early enough just most-time within fuel =
         let e : n ≡ m = omega arith in
-        completing l q n t (omega (arith, zero-mul (b .p))) (omega (arith, one-mul (b .p))) most-time ∙ rw e
-    polling (suc k) l q (suc n) m t early enough most-time within fuel =
+        completing l q n t (omega (arith, zero-mul (b .p))) (omega (arith, one-mul (b .p))) most-time ∙ rw (e, rw (one-mul (b .p)) at just)
+    polling (suc k) l q (suc n) m t now early enough just most-time within fuel =
         let e : suc k * b .p ≡ k * b .p + b .p = suc-mul k (b .p) in
         let e′ : suc (suc k) * b .p ≡ suc k * b .p + b .p = suc-mul (suc k) (b .p) in
         let c : q + 1 + suc k ≡ q + suc (suc k) = omega arith in
         waiting l q n t (omega arith) most-time (omega arith)
-        ∙ ap (led poll) (polling k (l - b .p) (q + 1) n m (not t) (omega arith) (omega arith) (omega arith) (omega arith) (omega arith) ∙ rw c)
+        ∙ ap (led poll) (polling k (l - b .p) (q + 1) n m (not t) now (omega arith) (omega arith) (just-less k l now (omega arith) just) (omega arith) (omega arith) (omega arith) ∙ rw c)
 
-    -- N polls, from the driver's first
+    -- N polls, from the driver's first; the last of them comes just at the completion, or after it
     abbrev turns : ℕ
     turns = pollsOf r (b .command) (b .p)
 
+    abbrev just : Bool
+    just = eqb (turns * b .p) (timeOf r (b .command))
+
     all-polls : (n m : ℕ) → n ≡ turns + m
         → talk stepOf (b .part) wp n (polls (moved b Polling 0)) (chip cells (device (busyWith core (operationOf r (b .command) (b .address) (b .«data»))) 0))
-        ≡ sent (replicate turns poll) (talk stepOf (b .part) wp m (stepOf (moved b Polling turns) shown) rested)
+        ≡ sent (replicate turns poll) (talk stepOf (b .part) wp m (stepOf (moved b Polling turns) (shownAt just)) (restedAt just))
     unfolding mostPolls
     all-polls n m fuel = by turns refl
       where
@@ -322,14 +363,14 @@ module _ (b : Driver) (accepted : startRefusal (b .part) (b .command) (b .addres
 
         by : (k : ℕ) → turns ≡ k
             → talk stepOf (b .part) wp n (polls (moved b Polling 0)) (chip cells (device (busyWith core (operationOf r (b .command) (b .address) (b .«data»))) 0))
-            ≡ sent (replicate turns poll) (talk stepOf (b .part) wp m (stepOf (moved b Polling turns) shown) rested)
+            ≡ sent (replicate turns poll) (talk stepOf (b .part) wp m (stepOf (moved b Polling turns) (shownAt just)) (restedAt just))
         by zero e = absurd (omega (arith, positive T (b .p) (valid .some) some-time))
         by (suc k) e =
             let c : 0 + suc k ≡ suc k = omega arith in
             let i : turns - 1 ≡ k = omega arith in
             let short : k * b .p < T = rw i at (below T (b .p) (valid .some) some-time) in
             let long : T ≤ suc k * b .p = rw e at (reaches T (b .p) (valid .some)) in
-            polling k T 0 n m true short long (omega arith) (omega arith) (omega arith) ∙ rw (c, e)
+            polling k T 0 n m true just short long (ap (λ (n : ℕ). eqb (n * b .p) T) (sym e)) (omega arith) (omega arith) (omega arith) ∙ rw (c, e)
 
     done-whole : length done ≡ r .cells
     done-whole =
@@ -337,67 +378,96 @@ module _ (b : Driver) (accepted : startRefusal (b .part) (b .command) (b .addres
         let there = last-there (b .part) known (b .command) (b .address) (b .«data») (valid .asked .target) in
         complete-length r o cells (rw whole (inside-cells (b .part) known o (valid .asked .target .has) there)) ∙ whole
 
-    -- a read at rest shows the value
-    reads : (e : ℕ) → cycleOf (b .part) done (device finished 0) (cycle e wp (Read at)) ≡ outcome done shown (device finished 0)
-    reads e = read-idle (b .part) done known done-whole at at-there finished e wp (idle-again core idles (operationOf r (b .command) (b .address) (b .«data»)))
+    -- a read after some time at rest shows the value
+    reads : (now : Bool) (e : ℕ) → 0 < e → cycleOf (b .part) done (device (finished now) 0) (cycle e wp (Read at)) ≡ outcome done shown (device (finished false) 0)
+    reads now e some = read-later (b .part) done known done-whole at at-there (finished now) e wp refl refl some
+
+    -- and the confirming read is one
+    confirm-later : 0 < confirmAfter
+    unfolding confirmAfter
+    confirm-later = omega arith
 
     -- ---- the same by their places, whatever follows
-    polling-placed : (k l : ℕ) (t : Bool) (cs : List Cycle) → k * b .p < l → l ≤ suc k * b .p → l ≤ timeOf r (b .command)
-        → placesIn (b .part) Polls (chip cells (busyAt l t)) (replicate (suc k) poll ++ cs) ≡ replicate (suc k) (ARead Polls) ++ placesIn (b .part) Confirms rested cs
-    polling-placed zero l t cs early enough most-time =
-        read-placed (b .part) Polls (chip cells (busyAt l t)) (b .p) wp at cs _
-        (read-done (b .part) cells known whole at at-there (busyWith core (running l t)) (b .p) wp (running-valid l t most-time) (omega (arith, zero-mul (b .p))) (omega (arith, one-mul (b .p))))
-        ∙ ap (λ (xs : List ℕ). ARead Polls ∷ placesIn (b .part) Confirms (chip xs (device finished 0)) cs) (same-done l t)
-    polling-placed (suc k) l t cs early enough most-time =
+    polling-placed : (k l : ℕ) (t now : Bool) (cs : List Cycle) → k * b .p < l → l ≤ suc k * b .p → eqb (suc k * b .p) l ≡ now → l ≤ timeOf r (b .command)
+        → placesIn (b .part) Polls (chip cells (busyAt l t)) (replicate (suc k) poll ++ cs) ≡ replicate (suc k) (ARead Polls) ++ placesIn (b .part) Confirms (restedAt now) cs
+    polling-placed zero l t now cs early enough just most-time =
+        read-placed (b .part) Polls (chip cells (busyAt l t)) (b .p) wp at cs _ (read-completes l t (omega (arith, zero-mul (b .p))) (omega (arith, one-mul (b .p))) most-time)
+        ∙ rw (rw (one-mul (b .p)) at just)
+    polling-placed (suc k) l t now cs early enough just most-time =
         let e : suc k * b .p ≡ k * b .p + b .p = suc-mul k (b .p) in
         let e′ : suc (suc k) * b .p ≡ suc k * b .p + b .p = suc-mul (suc k) (b .p) in
         read-placed (b .part) Polls (chip cells (busyAt l t)) (b .p) wp at (replicate (suc k) poll ++ cs) _
         (read-busy (b .part) cells known whole at at-there (busyWith core (running l t)) (b .p) wp (running-valid l t most-time) (omega arith))
-        ∙ rw (lt-ltb 0 (l - b .p) (omega arith)) (ap (λ (ps : List Place). ARead Polls ∷ ps) (polling-placed k (l - b .p) (not t) cs (omega arith) (omega arith) (omega arith)))
+        ∙ rw (lt-ltb 0 (l - b .p) (omega arith)) (ap (λ (ps : List Place). ARead Polls ∷ ps) (polling-placed k (l - b .p) (not t) now cs (omega arith) (omega arith) (just-less k l now (omega arith) just) (omega arith)))
 
     polls-placed : (cs : List Cycle) → placesIn (b .part) Polls (chip cells (device (busyWith core (operationOf r (b .command) (b .address) (b .«data»))) 0)) (replicate turns poll ++ cs)
-        ≡ replicate turns (ARead Polls) ++ placesIn (b .part) Confirms rested cs
+        ≡ replicate turns (ARead Polls) ++ placesIn (b .part) Confirms (restedAt just) cs
     polls-placed cs = by turns refl
       where
         T : ℕ
         T = timeOf r (b .command)
 
         by : (k : ℕ) → turns ≡ k → placesIn (b .part) Polls (chip cells (device (busyWith core (operationOf r (b .command) (b .address) (b .«data»))) 0)) (replicate turns poll ++ cs)
-            ≡ replicate turns (ARead Polls) ++ placesIn (b .part) Confirms rested cs
+            ≡ replicate turns (ARead Polls) ++ placesIn (b .part) Confirms (restedAt just) cs
         by zero e = absurd (omega (arith, positive T (b .p) (valid .some) some-time))
         by (suc k) e =
             let i : turns - 1 ≡ k = omega arith in
             let short : k * b .p < T = rw i at (below T (b .p) (valid .some) some-time) in
             let long : T ≤ suc k * b .p = rw e at (reaches T (b .p) (valid .some)) in
-            rw e (polling-placed k T true cs short long (omega arith))
+            rw e (polling-placed k T true (eqb (suc k * b .p) T) cs short long refl (omega arith))
 
-    confirm-placed : (cs : List Cycle) → placesIn (b .part) Confirms rested (cycle confirmAfter wp (Read at) ∷ cs) ≡ ARead Confirms ∷ placesIn (b .part) Scans rested cs
-    confirm-placed cs = read-placed (b .part) Confirms rested confirmAfter wp at cs _ (reads confirmAfter)
+    confirm-placed : (now : Bool) (cs : List Cycle) → placesIn (b .part) Confirms (restedAt now) (cycle confirmAfter wp (Read at) ∷ cs) ≡ ARead Confirms ∷ placesIn (b .part) Scans rested cs
+    confirm-placed now cs = read-placed (b .part) Confirms (restedAt now) confirmAfter wp at cs _ (reads now confirmAfter confirm-later)
+
+    -- ---- what the last poll shows, on a chip, and the chip after it
+    abbrev LastPoll : Bool → Chip → Type 0
+    LastPoll now h = (shows (b .part) h poll ≡ shownAt now) × (after (b .part) h poll ≡ restedAt now)
+
+    last-shows : (k l : ℕ) (t now : Bool) → k * b .p < l → l ≤ suc k * b .p → eqb (suc k * b .p) l ≡ now → l ≤ timeOf r (b .command)
+        → LastPoll now (play (b .part) (chip cells (busyAt l t)) (replicate k poll))
+    unfolding after
+    last-shows zero l t now early enough just most-time =
+        let o = read-completes l t (omega (arith, zero-mul (b .p))) (omega (arith, one-mul (b .p))) most-time in
+        let n : eqb (b .p) l ≡ now = rw (one-mul (b .p)) at just in
+        (ap (λ (o : Outcome). o .reply .value) o ∙ ap shownAt n, ap leaves o ∙ ap restedAt n)
+    last-shows (suc k) l t now early enough just most-time =
+        let e : suc k * b .p ≡ k * b .p + b .p = suc-mul k (b .p) in
+        let e′ : suc (suc k) * b .p ≡ suc k * b .p + b .p = suc-mul (suc k) (b .p) in
+        let o = read-busy (b .part) cells known whole at at-there (busyWith core (running l t)) (b .p) wp (running-valid l t most-time) (omega arith) in
+        subst (λ (h : Chip). LastPoll now (play (b .part) h (replicate k poll))) (sym (ap leaves o))
+        (last-shows k (l - b .p) (not t) now (omega arith) (omega arith) (just-less k l now (omega arith) just) (omega arith))
 
     -- ---- the end: bit 7 matches
-    confirming : (q n : ℕ) → 0 < q → q ≤ most b → eqb (bitSeven shown) (bitWanted (b .command) (b .«data»)) ≡ true
-        → talk stepOf (b .part) wp (suc n) (stepOf (moved b Polling q) shown) rested
+    confirming : (q n : ℕ) (now : Bool) → 0 < q → q ≤ most b → hits shown ≡ true
+        → talk stepOf (b .part) wp (suc n) (stepOf (moved b Polling q) (shownAt now)) (restedAt now)
         ≡ told (cycle confirmAfter wp (Read at) ∷ []) rested (ended (moved b Polling q) (pick (eqb shown (valueWanted r (b .command) (b .«data»))) Done Differs))
-    confirming q n some few hit =
-        ap (λ (s : Step). talk stepOf (b .part) wp (suc n) s rested) (confirm-then q shown some few hit)
-        ∙ (sends (b .part) wp n 0 confirmAfter q (moved b Confirming q) (Read at) rested _ (reads confirmAfter)
+    confirming q n now some few hit =
+        ap (λ (s : Step). talk stepOf (b .part) wp (suc n) s (restedAt now)) (confirm-then q (shownAt now) some few (same-hit now ∙ hit))
+        ∙ (sends (b .part) wp n 0 confirmAfter q (moved b Confirming q) (Read at) (restedAt now) _ (reads now confirmAfter confirm-later)
         ∙ ap (led (cycle confirmAfter wp (Read at)))
         (ap (λ (s : Step). talk stepOf (b .part) wp n s rested)
         (rw (value-value (r .width) (getD done at 0)) at (compare q shown some few))
         ∙ rests-told (b .part) wp n _ q _ rested))
 
     -- ---- or it never does, and the driver gives up
-    giving-up : (j q n : ℕ) → 0 < q → q + j ≡ most b → j ≤ n → eqb (bitSeven shown) (bitWanted (b .command) (b .«data»)) ≡ false
-        → talk stepOf (b .part) wp n (stepOf (moved b Polling q) shown) rested ≡ sent (replicate j poll) (told [] rested (ended (moved b Polling (most b)) GaveUp))
-    giving-up zero q n some all fuel miss =
-        let e : q ≡ most b = omega arith in
-        ap (λ (s : Step). talk stepOf (b .part) wp n s rested) (give-up q shown some (omega arith) miss (omega arith))
-        ∙ (rests-told (b .part) wp n 11 q (moved b GaveUp q) rested ∙ rw e)
-    giving-up (suc j) q zero some all fuel miss = absurd (omega arith)
-    giving-up (suc j) q (suc n) some all fuel miss =
-        ap (λ (s : Step). talk stepOf (b .part) wp (suc n) s rested) (poll-again q shown some (omega arith) miss (omega arith))
-        ∙ (sends (b .part) wp n 0 (b .p) (q + 1) (moved b Polling (q + 1)) (Read at) rested _ (reads (b .p))
-        ∙ ap (led poll) (giving-up j (q + 1) n (omega arith) (omega arith) (omega arith) miss))
+    -- one more poll, to which the word is shown
+    polls-on : (q n : ℕ) (now : Bool) → 0 < q → q < most b → hits shown ≡ false
+        → talk stepOf (b .part) wp (suc n) (stepOf (moved b Polling q) (shownAt now)) (restedAt now) ≡ led poll (talk stepOf (b .part) wp n (stepOf (moved b Polling (q + 1)) shown) rested)
+    polls-on q n now some more miss =
+        ap (λ (s : Step). talk stepOf (b .part) wp (suc n) s (restedAt now)) (poll-again q (shownAt now) some (omega arith) (same-hit now ∙ miss) more)
+        ∙ sends (b .part) wp n 0 (b .p) (q + 1) (moved b Polling (q + 1)) (Read at) (restedAt now) _ (reads now (b .p) (valid .some))
+
+    giving-up : (j q n : ℕ) (now : Bool) → 0 < q → q + suc j ≡ most b → suc j ≤ n → hits shown ≡ false
+        → talk stepOf (b .part) wp n (stepOf (moved b Polling q) (shownAt now)) (restedAt now) ≡ sent (replicate (suc j) poll) (told [] rested (ended (moved b Polling (most b)) GaveUp))
+    giving-up j q zero now some all fuel miss = absurd (omega arith)
+    giving-up zero q (suc n) now some all fuel miss =
+        let e : q + 1 ≡ most b = omega arith in
+        polls-on q n now some (omega arith) miss
+        ∙ ap (led poll)
+        (ap (λ (s : Step). talk stepOf (b .part) wp n s rested) (give-up (q + 1) shown (omega arith) (omega arith) miss (omega arith))
+        ∙ (rests-told (b .part) wp n 11 (q + 1) (moved b GaveUp (q + 1)) rested ∙ rw e))
+    giving-up (suc j) q (suc n) now some all fuel miss =
+        polls-on q n now some (omega arith) miss ∙ ap (led poll) (giving-up j (q + 1) n false (omega arith) (omega arith) (omega arith) miss)
 
     -- ---- from an idle core, at a WP# level that does not protect
     module _ (heeded : ignored r wp (b .command) (b .address) ≡ false) where
@@ -418,12 +488,37 @@ module _ (b : Driver) (accepted : startRefusal (b .part) (b .command) (b .addres
           ≡ replicate (writeCount (b .command)) NoRead ++ (replicate turns (ARead Polls) ++ (ARead Confirms ∷ placesIn (b .part) Scans rested cs))
       placed cs =
           writes-placed (b .part) Scans (chip cells (device core 0)) wp (writesOf r (b .command) (b .address) (b .«data»)) (replicate turns poll ++ (cycle confirmAfter wp (Read at) ∷ cs))
-          ∙ rw (starting, played, write-length r (b .command) (b .address) (b .«data»), polls-placed (cycle confirmAfter wp (Read at) ∷ cs), confirm-placed cs)
+          ∙ rw (starting, played, write-length r (b .command) (b .address) (b .«data»), polls-placed (cycle confirmAfter wp (Read at) ∷ cs), confirm-placed just cs)
+
+      -- the chip after the writes and so many polls
+      abbrev polled : ℕ → Chip
+      polled n = play (b .part) (play (b .part) (chip cells (device core 0)) writeList) (replicate n poll)
+
+      nth-poll : LastPoll just (polled (turns - 1))
+      nth-poll =
+          let T = timeOf r (b .command) in
+          let some : 0 < turns = positive T (b .p) (valid .some) some-time in
+          let e : suc (turns - 1) ≡ turns = omega arith in
+          let long : T ≤ suc (turns - 1) * b .p = rw e (reaches T (b .p) (valid .some)) in
+          rw played (last-shows (turns - 1) T true just (below T (b .p) (valid .some) some-time) long (ap (λ (n : ℕ). eqb (n * b .p) T) e) (omega arith))
+
+      -- the N-th poll shows the word as the outputs are 0 µs after the completion, or later
+      pub nth-shows : shows (b .part) (polled (turns - 1)) poll ≡ shownAt just
+      nth-shows = nth-poll .0
+
+      -- and the confirming read the word
+      pub confirm-shows : shows (b .part) (polled turns) (cycle confirmAfter wp (Read at)) ≡ shown
+      confirm-shows =
+          let some : 0 < turns = positive (timeOf r (b .command)) (b .p) (valid .some) some-time in
+          let e : suc (turns - 1) ≡ turns = omega arith in
+          let h = play (b .part) (chip cells (device core 0)) writeList in
+          let at-rest : polled turns ≡ restedAt just = ap (λ (n : ℕ). play (b .part) h (replicate n poll)) (sym e) ∙ (play-last (b .part) (turns - 1) h poll ∙ nth-poll .1) in
+          ap (λ (h : Chip). shows (b .part) h (cycle confirmAfter wp (Read at))) at-rest ∙ ap (λ (o : Outcome). o .reply .value) (reads just confirmAfter confirm-later)
 
       -- the writes, and N polls
       opening : (n m read : ℕ) → n ≡ writeCount (b .command) + (turns + m)
           → talk stepOf (b .part) wp n (stepOf (moved b Writing 0) read) (chip cells (device core 0))
-          ≡ sent writeList (sent (replicate turns poll) (talk stepOf (b .part) wp m (stepOf (moved b Polling turns) shown) rested))
+          ≡ sent writeList (sent (replicate turns poll) (talk stepOf (b .part) wp m (stepOf (moved b Polling turns) (shownAt just)) (restedAt just)))
       unfolding driverAt
       opening n m read fuel =
           let z : 0 + writeCount (b .command) ≡ writeCount (b .command) = omega arith in
@@ -438,7 +533,7 @@ module _ (b : Driver) (accepted : startRefusal (b .part) (b .command) (b .addres
       performs n read enough hit =
           let m : ℕ = n - (writeCount (b .command) + turns + 1) in
           opening n (suc m) read (omega arith)
-          ∙ ap (λ (t : Told). sent writeList (sent (replicate turns poll) t)) (confirming turns m (positive (timeOf r (b .command)) (b .p) (valid .some) some-time) (omega arith) hit)
+          ∙ ap (λ (t : Told). sent writeList (sent (replicate turns poll) t)) (confirming turns m just (positive (timeOf r (b .command)) (b .p) (valid .some) some-time) (omega arith) hit)
 
       pub gives-up : (n read : ℕ) → writeCount (b .command) + turns * 2 ≤ n → eqb (bitSeven shown) (bitWanted (b .command) (b .«data»)) ≡ false
           → talk stepOf (b .part) wp n (stepOf (moved b Writing 0) read) (chip cells (device core 0))
@@ -446,9 +541,11 @@ module _ (b : Driver) (accepted : startRefusal (b .part) (b .command) (b .addres
       unfolding mostPolls
       gives-up n read enough miss =
           let m : ℕ = n - (writeCount (b .command) + turns) in
+          let some : 0 < turns = positive (timeOf r (b .command)) (b .p) (valid .some) some-time in
+          let e : suc (turns - 1) ≡ turns = omega arith in
           opening n m read (omega arith)
           ∙ (ap (λ (t : Told). sent writeList (sent (replicate turns poll) t))
-          (giving-up turns turns m (positive (timeOf r (b .command)) (b .p) (valid .some) some-time) (omega arith) (omega arith) miss)
+          (giving-up (turns - 1) turns m just some (omega arith) (omega arith) miss ∙ ap (λ (j : ℕ). sent (replicate j poll) (told [] rested (ended (moved b Polling (turns * 2)) GaveUp))) e)
           ∙ ap (λ (cs : List Cycle). told (writeList ++ cs) rested (ended (moved b Polling (turns * 2)) GaveUp)) twice)
         where
           twice : replicate turns poll ++ (replicate turns poll ++ []) ≡ replicate (turns * 2) poll

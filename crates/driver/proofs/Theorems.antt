@@ -1,5 +1,5 @@
 -- What is proved of the driver, over all parts at once. Every hypothesis stands in the statement; a refusal of 0 says that what is asked is accepted.
-use Prim.Native.Nat.{ℕ, _+_, _*_, _^_, _≤_, _<_}
+use Prim.Native.Nat.{ℕ, _+_, _-_, _*_, _^_, _≤_, _<_}
 use mathlib.Core.Path.{_≡_, refl, sym, ap, _∙_}
 use mathlib.Core.Bool.{Bool, true, false}
 use mathlib.Core.List.{List, [], _∷_, _++_, append-nil}
@@ -11,15 +11,16 @@ use lib.Bits.{bitAnd}
 use Rattle.parts.specs.Pick.{pick}
 use Rattle.parts.specs.Width.{valueOf}
 use Rattle.parts.specs.Table.{rowOf, partRefusal}
-use Rattle.parts.specs.Time.{isInterval, pollsOf}
+use Rattle.parts.specs.Time.{isInterval, timeOf, pollsOf}
 use Rattle.parts.specs.declared.table.Row.{Row}
+use Rattle.parts.proofs.Sound.{width-least}
 use Rattle.chip.specs.declared.device.Device.{Device}
 use Rattle.chip.specs.declared.device.Operation.{Operation}
 use Rattle.chip.specs.declared.cycle.Action.the-variants.{Read}
 use Rattle.chip.specs.declared.cycle.Cycle.{Cycle}
 use Rattle.chip.specs.Device.{busyWith, device, freshDevice, coreIdle, idle}
 use Rattle.chip.specs.Sequence.{ignored}
-use Rattle.chip.specs.Cycle.{cycle, Chip, chip}
+use Rattle.chip.specs.Cycle.{cycle, Chip, chip, outputsOf}
 use Rattle.chip.specs.Trace.{play, startedIn}
 use Rattle.driver.specs.declared.machine.Phase.{Phase}
 use Rattle.driver.specs.declared.machine.Phase.the-variants.{Polling, Done, GaveUp, Differs}
@@ -30,13 +31,14 @@ use Rattle.driver.specs.Refusals.{commandRefusal, startRefusal}
 use Rattle.driver.specs.Writes.{writesOf, writeCount}
 use Rattle.driver.specs.Machine.{addressOf, bitSeven, bitWanted, valueWanted, begun, noDriver, startOf, mostPolls, inRange, confirmAfter, moved, step, final, ended, stepOf}
 use Rattle.driver.specs.Endings.{MustRaise, MustRaiseSeven, Ended, Meaning}
-use Rattle.driver.specs.Talk.{Stepping, AsSaid, writeCycles, operationCycles, operationOf, completed, shownAfter, Told, told, talk, heard}
+use Rattle.driver.specs.Talk.{Stepping, AsSaid, writeCycles, operationCycles, operationOf, completed, shownAfter, shows, Told, told, talk, heard}
 use Rattle.driver.specs.Reads.{Scans, Polls, Confirms, ARead, NoRead, placesIn}
 use Rattle.driver.proofs.Asked as Asked
 use Rattle.driver.proofs.Steps.{refuses, most, StepInRange, kept, few-polls, falls, asks-on, final-polls, final-writing}
 use Rattle.driver.proofs.Named.{namedIn, namedBy, names, asCycle, cycles-are, cycles-few}
 use Rattle.driver.proofs.Within.{over, stands}
 use Rattle.chip.proofs.Idle.{idle-is, idle-rests}
+use Rattle.chip.proofs.Outputs.{keeps-seven}
 use Rattle.chip.proofs.Started.{LastStarts, last-starts-all, Leads}
 use Rattle.driver.proofs.Commands.{command-leads}
 use Rattle.driver.proofs.Begins.{start-is, few-commands, kept-accepted, start-range, kept-address, kept-bit, kept-value, kept-last, kept-writes, kept-heeded}
@@ -140,6 +142,33 @@ module _ (part command address word p : ℕ) (wp : Bool) (cells : List ℕ) (d :
       (rw (kept-writes r command address word c, l, a) at
       (Talks.gives-up (begun part command address word p) (kept-accepted part command address word p accepted) wp cells whole (d .core) (idles .1) (kept-heeded r command address word c wp ∙ heeded)
       n read enough (rw (l, a, kept-bit command word) (ne-eqb (bitSeven shown) (bitWanted command word) miss))))
+
+  -- the chip after the writes and so many polls
+  abbrev polled : ℕ → Chip
+  polled n = play part (play part (chip cells d) (writeCycles wp (writesOf r command address word))) (replicate n (cycle p wp (Read at)))
+
+  -- The N-th poll shows the word as the outputs are then: all its bits but 7 inverted where N polls take just the table time. So its bit 7 is the word's,
+  pub nth-poll-shows : shows part (polled (N - 1)) (cycle p wp (Read at)) ≡ outputsOf (r .width) (eqb (N * p) (timeOf r command)) shown
+  nth-poll-shows =
+      let c = few-commands part command address word p accepted in
+      rw (idles .0)
+      (rw (kept-writes r command address word c, kept-last r command address word c, kept-address command address) at
+      (Talks.nth-shows (begun part command address word p) (kept-accepted part command address word p accepted) wp cells whole (d .core) (idles .1) (kept-heeded r command address word c wp ∙ heeded)))
+
+  pub nth-poll-matches : bitSeven (shows part (polled (N - 1)) (cycle p wp (Read at))) ≡ bitSeven shown
+  nth-poll-matches = ap bitSeven nth-poll-shows ∙ seven (eqb (N * p) (timeOf r command))
+    where
+      seven : (now : Bool) → bitSeven (outputsOf (r .width) now shown) ≡ bitSeven shown
+      seven true = keeps-seven (r .width) (width-least part (Asked.begun part command address word p accepted .asked .known)) shown
+      seven false = refl
+
+  -- and the confirming read, a microsecond later, shows the word itself.
+  pub confirm-shows : shows part (polled N) (cycle confirmAfter wp (Read at)) ≡ shown
+  confirm-shows =
+      let c = few-commands part command address word p accepted in
+      rw (idles .0)
+      (rw (kept-writes r command address word c, kept-last r command address word c, kept-address command address) at
+      (Talks.confirm-shows (begun part command address word p) (kept-accepted part command address word p accepted) wp cells whole (d .core) (idles .1) (kept-heeded r command address word c wp ∙ heeded)))
 
   -- The writes, N polls and the confirming read told by their places, whatever follows.
   pub placed : (cs : List Cycle) → placesIn part Scans (chip cells d) (sending N (cycle confirmAfter wp (Read at) ∷ cs))

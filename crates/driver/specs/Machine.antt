@@ -145,9 +145,9 @@ writingOf r d = step 0 (afterWrite d) (Send 0 (Write (nextWrite r d .address) (n
 abbrev pub polls : Driver → Step
 polls d = step 0 (moved d Polling (d .count + 1)) (Send (d .p) (Read (addressOf (d .command) (d .address)))) (d .count + 1)
 
--- the µs from the last poll to the confirming read
+-- the µs from the last poll to the confirming read: the word is there a microsecond after bit 7
 unfoldable pub confirmAfter : ℕ
-confirmAfter = 0
+confirmAfter = 1
 
 -- the confirming read
 abbrev pub confirms : Driver → Step

@@ -18,8 +18,8 @@ ghost use Rattle.driver.specs.Machine.{addressOf, afterWrite, bitSeven, 
 ghost use Rattle.driver.specs.Fits.{CodesAndTimesFit};
 ghost use Rattle.driver.specs.Writes.{writeCount};
 
-// The µs from the last poll to the confirming read.
-pub const CONFIRM_AFTER: u32 = 0;
+// The µs from the last poll to the confirming read: the word is there a microsecond after bit 7.
+pub const CONFIRM_AFTER: u32 = 1;
 
 // The writes are named one by one; then polls; then the confirming read; then one of three ends.
 pub enum Phase {

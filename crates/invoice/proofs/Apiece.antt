@@ -21,7 +21,7 @@ use Rattle.job.specs.Run.{Sent, sent, World, world, countedOf, noLast, lastOf, 
 use Rattle.job.specs.Sent.{writesSent}
 use Rattle.job.specs.Formulas.{plus, noTally, tallyOf}
 use Rattle.job.proofs.Rest.{chipOf}
-use Rattle.invoice.specs.Started.{cyclesIn, toldLast, lastIn, lastShown, many}
+use Rattle.invoice.specs.Started.{cyclesIn, ShowsCell, ShowCells, toldLast, lastIn, lastShown, many}
 
 -- ---- counts
 -- the erases and programs of t are the operations os, and no others are among these
@@ -50,15 +50,16 @@ counts-begun zero e o few k = rw k (record { erases = refl; programs = refl; blo
 counts-begun (suc zero) e o few k = rw k (record { erases = refl; programs = refl; blocks = refl; chips = refl })
 counts-begun (suc (suc c)) e o few k = absurd (omega arith)
 
--- ---- one cycle, on the chip h: it counts the operations that it starts, and as the last one it is told
+-- ---- one cycle, on the chip h: it counts the operations that it starts, as the last one it is told, and what is taken for a cell's value is one
 pub record Piece (part : ℕ) (h : Chip) (s : Sent) : Type 0 where
   pub counts : Counts (countedOf noTally (s .purpose) (s .cycle .elapsed)) (startedBy part h (s .cycle))
   pub told : toldLast (lastOf (s .cycle .elapsed) (s .cycle .wp) (s .cycle .action)) ≡ s .cycle ∷ []
+  pub shown : ShowsCell part h s (s .cycle .action)
 
 -- a read, counted neither as an erase nor as a program
 pub read-piece : (part : ℕ) (h : Chip) (p : Purpose) (e : ℕ) (wp : Bool) (a : ℕ) → countedOf noTally p e .erases ≡ 0 → countedOf noTally p e .programs ≡ 0
-    → Piece part h (sent p (cycle e wp (Read a)))
-read-piece part h p e wp a ne np = record { counts = rw (read-starts part h e wp a) (record { erases = ne; programs = np; blocks = refl; chips = refl }); told = refl }
+    → ShowsCell part h (sent p (cycle e wp (Read a))) (Read a) → Piece part h (sent p (cycle e wp (Read a)))
+read-piece part h p e wp a ne np t = record { counts = rw (read-starts part h e wp a) (record { erases = ne; programs = np; blocks = refl; chips = refl }); told = refl; shown = t }
 
 -- ---- a list, from the world w on
 abbrev pub Apiece : ℕ → World → List Sent → Type 0
@@ -80,15 +81,21 @@ module _ (part : ℕ) where
       → (w : World) → LastStarts part (chipOf w) (writeCycles wp ws) (o ∷ []) → Apiece part w (writesSent wp command ws)
   unfolding sendOf after
   apiece-writes wp command [] o few k w l = tt
-  apiece-writes wp command (x ∷ []) o few k w l = (record { counts = rw l (counts-begun command 0 o few k); told = refl }, tt)
+  apiece-writes wp command (x ∷ []) o few k w l = (record { counts = rw l (counts-begun command 0 o few k); told = refl; shown = tt }, tt)
   apiece-writes wp command (x ∷ (y ∷ ws)) o few k w l =
-      (record { counts = rw (l .0) (record { erases = refl; programs = refl; blocks = refl; chips = refl }); told = refl }, apiece-writes wp command (y ∷ ws) o few k _ (l .1))
+      (record { counts = rw (l .0) (record { erases = refl; programs = refl; blocks = refl; chips = refl }); told = refl; shown = tt }, apiece-writes wp command (y ∷ ws) o few k _ (l .1))
 
   -- the counts are of the operations that the list starts
   pub apiece-counts : (w : World) (L : List Sent) → Apiece part w L → Counts (tallyOf L) (startedIn part (chipOf w) (cyclesIn L))
   unfolding tallyOf sendOf after
   apiece-counts w [] a = record { erases = refl; programs = refl; blocks = refl; chips = refl }
   apiece-counts w (s ∷ L) a = counts-plus _ _ _ _ (a .0 .counts) (apiece-counts (sendOf part w (s .purpose) (s .cycle)) L (a .1))
+
+  -- what is taken for a cell's value is one
+  pub apiece-shows : (w : World) (L : List Sent) → Apiece part w L → ShowCells part (chipOf w) L
+  unfolding sendOf after
+  apiece-shows w [] a = tt
+  apiece-shows w (s ∷ L) a = (a .0 .shown, apiece-shows (sendOf part w (s .purpose) (s .cycle)) L (a .1))
 
   -- the last cycle is the list's, and the reply what that shows
   last-is : (w : World) (s : Sent) (L : List Sent) → Apiece part w (s ∷ L) → toldLast (playOf part w (s ∷ L) .held .last) ≡ lastIn (cyclesIn (s ∷ L))

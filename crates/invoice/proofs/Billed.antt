@@ -33,7 +33,7 @@ use Rattle.invoice.specs.Invoice.{started, placesSent, Invoice, Partly, 
 use Rattle.chip.proofs.Started.{started-all}
 use Rattle.invoice.proofs.ByKind.{only-those}
 use Rattle.invoice.proofs.Placed.{placedAs, contents, map-take, places-take}
-use Rattle.invoice.proofs.Apiece.{Counts, Apiece, apiece-take, apiece-counts, told-last, no-last, shown-last}
+use Rattle.invoice.proofs.Apiece.{Counts, Apiece, apiece-take, apiece-counts, apiece-shows, told-last, no-last, shown-last}
 use Rattle.invoice.proofs.Starts.{world-plays}
 use Rattle.invoice.proofs.Image.{job-started}
 use Rattle.invoice.proofs.Least.{held, cells-left, image-left, others-left, job-times, no-less}
@@ -95,6 +95,7 @@ module _ (part : ℕ) (cells : List ℕ) (first : ℕ) (image : List ℕ) (wp : 
         scanned = rw (t, e) (c .scans);
         confirmed = rw (t, e) (c .confirms);
         timed = rw t (c .time);
+        words = apiece-shows part (world cells noneSent) (sentOf j image cells) each;
       })
 
   -- a second call: the first k cycles

@@ -34,7 +34,7 @@ use Rattle.job.specs.declared.loader.Job.{Job}
 use Rattle.values.specs.declared.search.Decision.{Decision}
 use Rattle.values.specs.declared.search.Decision.the-variants.{NoErase, SectorErase}
 use Rattle.values.specs.Search.{decisionOf}
-use Rattle.job.specs.Run.{Sent, World, world, noneSent, playOf}
+use Rattle.job.specs.Run.{Sent, World, world, noneSent, sendOf, playOf}
 use Rattle.job.specs.Sent.{operated, scanRead, scans, fills, looks, carries, decidedOn, sectorSent, sectorsSent, sentOf}
 use Rattle.driver.proofs.Talks.{talk-stops, talk-goes}
 use Rattle.job.proofs.Rest.{chipOf}
@@ -43,7 +43,7 @@ use Rattle.values.proofs.Clears.{cleared}
 use Rattle.values.proofs.Places.{fit-at}
 use Rattle.job.proofs.Left.{program-leaves, erase-length, erase-drop, erase-at}
 use Rattle.job.proofs.Sectors.{Ready, Read-on, reads-on}
-use Rattle.invoice.specs.Started.{cyclesIn}
+use Rattle.invoice.specs.Started.{cyclesIn, ShowsCell}
 use Rattle.invoice.proofs.Listed.{programming, filling, looking, carrying, sectoring, sectoringAll, operationsOf}
 use Rattle.invoice.proofs.Starts.{world-plays, play-append, operated-cycles, Starts, starts-none, starts-append, starts-read, starts-operated}
 
@@ -195,6 +195,11 @@ module _ (j : Job) (image : List ℕ) (R : AcceptedJob j image) where
   abbrev Clear : ℕ → ℕ → Type 0
   Clear o x = bitAnd (value o) x ≡ x
 
+  -- a scan shows the value of its cell
+  scan-true : (a : ℕ) (w : World) → Read-on j image R w a (after-all w (scanRead j a ∷ [])) → ShowsCell (j .part) (chipOf w) (scanRead j a) (Read a)
+  unfolding sendOf after
+  scan-true a w o q = o .reply ∙ (ap (λ (r : Row). valueOf (r .width) (at w a)) (R .row) ∙ sym (ap (λ (l : List ℕ). value (getD l a 0)) (o .cells)))
+
   -- a read changes nothing
   read-put : (a : ℕ) (w : World) → a < r .cells → Ready j image R w → Put w a (scanRead j a ∷ []) []
   read-put a w t g =
@@ -202,7 +207,7 @@ module _ (j : Job) (image : List ℕ) (R : AcceptedJob j image) where
       record {
         ready = o .ready;
         others = λ i n. ap (λ (l : List ℕ). getD l i 0) (o .cells);
-        starts = starts-read (j .part) w j a;
+        starts = starts-read (j .part) w j a (scan-true a w o);
       }
 
   -- nor does one in front
@@ -212,7 +217,7 @@ module _ (j : Job) (image : List ℕ) (R : AcceptedJob j image) where
       record {
         ready = p .ready;
         others = λ i n. p .others i n ∙ ap (λ (l : List ℕ). getD l i 0) (o .cells);
-        starts = starts-append (j .part) w (scanRead j a ∷ []) L [] os (starts-read (j .part) w j a) (p .starts);
+        starts = starts-append (j .part) w (scanRead j a ∷ []) L [] os (starts-read (j .part) w j a (scan-true a w o)) (p .starts);
       }
 
   abbrev SameAs : List ℕ → World → ℕ → ℕ → Type 0
@@ -264,7 +269,7 @@ module _ (j : Job) (image : List ℕ) (R : AcceptedJob j image) where
       record {
         ready = k .ready;
         cells = k .cells ∙ o .cells;
-        starts = starts-append (j .part) w (scanRead j a ∷ []) (scans j (a + 1) n) [] [] (starts-read (j .part) w j a) (k .starts);
+        starts = starts-append (j .part) w (scanRead j a ∷ []) (scans j (a + 1) n) [] [] (starts-read (j .part) w j a (scan-true a w o)) (k .starts);
       }
 
   -- ---- the erase of a sector

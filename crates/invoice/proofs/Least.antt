@@ -24,12 +24,13 @@ use Rattle.parts.proofs.Ranges.{sector-some}
 use Rattle.chip.specs.declared.device.Device.{Device}
 use Rattle.chip.specs.declared.device.Operation.{Operation}
 use Rattle.chip.specs.declared.cycle.Cycle.{Cycle}
-use Rattle.chip.specs.Device.{freshDevice, idle}
+use Rattle.chip.specs.Device.{busy, freshDevice, idle}
 use Rattle.chip.specs.Operation.{cellsOf, finished, completeOn}
 use Rattle.chip.specs.Cycle.{Chip, chip}
 use Rattle.chip.specs.Trace.{play, startedIn, uncut, completeAll}
+use Rattle.chip.specs.Recent.{later}
 use Rattle.chip.proofs.Leaves.{stored}
-use Rattle.chip.proofs.Idle.{fresh-idle}
+use Rattle.chip.proofs.Idle.{idle-is, idle-rests}
 use Rattle.chip.proofs.Trace.{trace}
 use Rattle.chip.proofs.Started.{Startable, All, started-all}
 use Rattle.driver.specs.Writes.{lastWrite}
@@ -249,8 +250,9 @@ module _ (j : Job) (image : List ℕ) (R : AcceptedJob j image) (cells : List �
   cells-left =
       let h = job-started j image R cells full (rw (R .size) (sector-some (r .width))) in
       let e = world-plays (j .part) (world cells noneSent) (sentOf j image cells) in
-      let rest : idle (play (j .part) (chip cells freshDevice) (cyclesIn (sentOf j image cells)) .device) ≡ true = rw (← e, h .ready .rest) fresh-idle in
-      ap (λ (h : Chip). h .cells) e ∙ (trace (j .part) (cyclesIn (sentOf j image cells)) (chip cells freshDevice) (held .whole) fresh-idle rest
+      let rest : busy (play (j .part) (chip cells freshDevice) (cyclesIn (sentOf j image cells)) .device .core) ≡ false
+      = ap (λ (h : Chip). busy (h .device .core)) (sym e) ∙ ap (λ (d : Device). busy (d .core)) (h .ready .rest) in
+      ap (λ (h : Chip). h .cells) e ∙ (trace (j .part) (cyclesIn (sentOf j image cells)) (chip cells freshDevice) (held .whole) refl rest
       ∙ ap (λ (os : List Operation). completeAll r os cells) (held .begun))
 
   room : (j .first / size + j .count / size) * size ≤ length cells
@@ -278,23 +280,26 @@ module _ (j : Job) (image : List ℕ) (R : AcceptedJob j image) (cells : List �
   pub job-times : tableTime r (operationsOf j image cells) ≡ tallyOf (sentOf j image cells) .erases * timeOf r 1 + tallyOf (sentOf j image cells) .programs * timeOf r 0
   job-times = rw (held-counts .erases, held-counts .programs) (times-are r (operationsOf j image cells) startable (held-counts .blocks) (held-counts .chips))
 
-  -- From the same cells and any idle device, a list of cycles without cut, that starts no block and no chip erase, ends idle and leaves the image in the
-  -- range, starts operations whose table times add up to at least those of the job's.
+  -- From the same cells and any idle device, a list of cycles without cut, that starts no block and no chip erase, ends idle or is so some time later, and
+  -- leaves the image in the range, starts operations whose table times add up to at least those of the job's.
   pub no-less : (d : Device) (cs : List Cycle)
       → idle d ≡ true → uncut cs ≡ true
       → many 2 (startedIn (j .part) (chip cells d) cs) ≡ 0 → many 3 (startedIn (j .part) (chip cells d) cs) ≡ 0
-      → idle (play (j .part) (chip cells d) cs .device) ≡ true
+      → idle (later (play (j .part) (chip cells d) cs .device)) ≡ true
       → ((i : ℕ) → i < length image → valueOf (r .width) (getD (play (j .part) (chip cells d) cs .cells) (j .first + i) 0) ≡ getD image i 0)
       → tableTime r (operationsOf j image cells) ≤ tableTime r (startedIn (j .part) (chip cells d) cs)
   no-less d cs rests whole blocks chips ends holds =
       let os = startedIn (j .part) (chip cells d) cs in
       let t = all-is r os (started-all (j .part) cs (chip cells d)) blocks chips cells full in
       let k = all-is r (operationsOf j image cells) startable (held-counts .blocks) (held-counts .chips) cells full in
-      let p = trace (j .part) cs (chip cells d) whole rests ends in
+      let p = trace (j .part) cs (chip cells d) whole (at-rest d rests) (at-rest (later (play (j .part) (chip cells d) cs .device)) ends) in
       let same = there (play (j .part) (chip cells d) cs .cells) (operateAll (r .width) size (map (opOf size) os) cells) (p ∙ t .0) holds in
       let best = job-best (r .width) size (timeOf r 0) (timeOf r 1) (j .first / size) (j .count / size) cells image (map (opOf size) os) room same in
       omega (arith, best, t .1, k .1, ap (costAll (timeOf r 0) (timeOf r 1)) listed)
     where
+      at-rest : (d : Device) → idle d ≡ true → busy (d .core) ≡ false
+      at-rest d i = idle-rests (d .core) (idle-is d i .1)
+
       there : (c k : List ℕ) → c ≡ k
           → ((i : ℕ) → i < length image → valueOf (r .width) (getD c (j .first + i) 0) ≡ getD image i 0) → Holds (r .width) size (j .first / size) (j .count / size) k image
       there c k e h = λ i l.

@@ -1,13 +1,15 @@
--- The operations that sent cycles start: none by reads, one by an operation's cycles; and each cycle is what it is counted as.
+-- The operations that sent cycles start: none by reads, one by an operation's cycles; and each cycle is what it is counted and taken as.
 use Prim.Native.Nat.{ℕ, zero, suc, _+_, _≤_}
 use mathlib.Core.Path.{_≡_, refl, sym, ap, ap₂, _∙_}
 use mathlib.Core.Bool.{Bool, true, false}
 use mathlib.Core.List.{List, [], _∷_, _++_, map, append-assoc, map-append}
 use native.Mathlib.Omega.{arith}
 use borrow.Author.Tests.{ne-eqb}
-use lib.ListN.{length, replicate}
+use lib.ListN.{length, getD, replicate}
+use Rattle.parts.specs.Width.{valueOf}
 use Rattle.parts.specs.Table.{rowOf}
 use Rattle.parts.specs.Time.{pollsOf}
+use Rattle.parts.proofs.Every.{apart}
 use Rattle.chip.specs.declared.device.Operation.{Operation}
 use Rattle.chip.specs.declared.cycle.Action.the-variants.{Read}
 use Rattle.chip.specs.declared.cycle.Cycle.{Cycle}
@@ -19,17 +21,17 @@ use Rattle.chip.proofs.Started.{started-append, read-starts, reads-start, one-r
 use Rattle.commands.specs.declared.write.Write.{Write}
 use Rattle.driver.specs.Writes.{writesOf, writeCount}
 use Rattle.driver.specs.Machine.{addressOf, confirmAfter}
-use Rattle.driver.specs.Talk.{writeCycles, operationOf, completed}
+use Rattle.driver.specs.Talk.{writeCycle, writeCycles, operationOf, completed, shows}
 use Rattle.driver.specs.Reads.{Scans, Polls, Confirms, Place, ARead, NoRead, placesIn}
 use Rattle.driver.specs.Refusals.{commandRefusal, startRefusal}
 use Rattle.driver.proofs.Asked.{asking, begun}
-use Rattle.driver.proofs.Theorems.{writes-start, last-write-starts, placed as operation-placed}
+use Rattle.driver.proofs.Theorems.{writes-start, last-write-starts, confirm-shows, placed as operation-placed}
 use Rattle.job.specs.declared.loader.Job.{Job}
 use Rattle.job.specs.declared.loader.Purpose.the-variants.{Scan, Poll, Confirm}
 use Rattle.job.specs.Run.{Sent, sent, World, sendOf, playOf}
 use Rattle.job.specs.Sent.{writesSent, operated, scanRead}
 use Rattle.job.proofs.Rest.{chipOf}
-use Rattle.invoice.specs.Started.{cyclesIn}
+use Rattle.invoice.specs.Started.{cyclesIn, ShowsCell}
 use Rattle.invoice.proofs.Placed.{placedAs}
 use Rattle.invoice.proofs.Apiece.{Apiece, read-piece, apiece-append, apiece-writes}
 
@@ -63,6 +65,15 @@ unfolding operated writesOf
 operated-cycles j zero a x le = ap (λ (l : List Cycle). writeCycles (j .wp) (writesOf (j .row) 0 a x) ++ l) (polls-cycles (pollsOf (j .row) 0 (j .p)) _ _)
 operated-cycles j (suc zero) a x le = ap (λ (l : List Cycle). writeCycles (j .wp) (writesOf (j .row) 1 a x) ++ l) (polls-cycles (pollsOf (j .row) 1 (j .p)) _ _)
 operated-cycles j (suc (suc c)) a x le = absurd (omega arith)
+
+replicate-cycles : (n : ℕ) (s : Sent) → cyclesIn (replicate n s) ≡ replicate n (s .cycle)
+replicate-cycles zero s = refl
+replicate-cycles (suc n) s = ap (λ (l : List Cycle). s .cycle ∷ l) (replicate-cycles n s)
+
+writes-cycles : (wp : Bool) (command : ℕ) (ws : List Write) → cyclesIn (writesSent wp command ws) ≡ writeCycles wp ws
+writes-cycles wp command [] = refl
+writes-cycles wp command (w ∷ []) = refl
+writes-cycles wp command (w ∷ (v ∷ ws)) = ap (λ (l : List Cycle). writeCycle wp w ∷ l) (writes-cycles wp command (v ∷ ws))
 
 cycles-append : (L M : List Sent) → cyclesIn (L ++ M) ≡ cyclesIn L ++ cyclesIn M
 cycles-append L M = map-append (λ (s : Sent). s .cycle) L M
@@ -101,10 +112,10 @@ module _ (part : ℕ) (w : World) where
       }
 
   module _ (j : Job) (a : ℕ) where
-    -- a read
-    pub starts-read : Starts part w (scanRead j a ∷ []) []
+    -- a scan that shows the value of its cell
+    pub starts-read : ShowsCell part (chipOf w) (scanRead j a) (Read a) → Starts part w (scanRead j a ∷ []) []
     unfolding sendOf after
-    starts-read = record { begun = rw (read-starts part (chipOf w) 0 (j .wp) a); apiece = (read-piece part (chipOf w) Scan 0 (j .wp) a refl refl, tt); whole = refl; placed = λ cs. refl }
+    starts-read t = record { begun = rw (read-starts part (chipOf w) 0 (j .wp) a); apiece = (read-piece part (chipOf w) Scan 0 (j .wp) a refl refl t, tt); whole = refl; placed = λ cs. refl }
 
 -- an operation's cycles, from an idle chip, where it is accepted and not ignored
 module _ (j : Job) (command a x : ℕ) (few : command ≤ 1) (row : j .row ≡ rowOf (j .part)) (w : World)
@@ -165,10 +176,46 @@ module _ (j : Job) (command a x : ℕ) (few : command ≤ 1) (row : j .row ≡ r
       )
       (rw plain at (operation-placed (j .part) command a x (j .p) (j .wp) (w .cells) (w .held .device) accepted whole rests heeded cs))
 
+  -- the confirming read: what it meets after the writes and the polls, and that it shows the value of its cell
+  abbrev poll : Sent
+  poll = sent Poll (cycle (j .p) (j .wp) (Read a))
+
+  abbrev confirm : Sent
+  confirm = sent Confirm (cycle confirmAfter (j .wp) (Read a))
+
+  abbrev written : World
+  written = playOf (j .part) w (writesSent (j .wp) command (writesOf (rowOf (j .part)) command a x))
+
+  abbrev met : World
+  met = playOf (j .part) written (replicate n poll)
+
+  met-is : chipOf met ≡ play (j .part) (play (j .part) (chipOf w) (writeCycles (j .wp) (writesOf (rowOf (j .part)) command a x))) (replicate n (cycle (j .p) (j .wp) (Read a)))
+  met-is =
+      let ws = writesOf (rowOf (j .part)) command a x in
+      world-plays (j .part) written (replicate n poll)
+      ∙ (ap (play (j .part) (chipOf written)) (replicate-cycles n poll)
+      ∙ ap (λ (h : Chip). play (j .part) h (replicate n (cycle (j .p) (j .wp) (Read a))))
+      (world-plays (j .part) w (writesSent (j .wp) command ws) ∙ ap (play (j .part) (chipOf w)) (writes-cycles (j .wp) command ws)))
+
+  met-leads : after (j .part) (chipOf met) (confirm .cycle) ≡ chip (completed (rowOf (j .part)) command a x (w .cells)) freshDevice
+  unfolding operated sendOf after
+  met-leads =
+      let ws = writesSent (j .wp) command (writesOf (rowOf (j .part)) command a x) in
+      let e : playOf (j .part) w (operated j command a x) ≡ playOf (j .part) met (confirm ∷ [])
+      = rw row (play-append (j .part) w ws (replicate n poll ++ (confirm ∷ [])) ∙ play-append (j .part) written (replicate n poll) (confirm ∷ [])) in
+      sym (ap chipOf e) ∙ left
+
+  confirm-true : ShowsCell (j .part) (chipOf met) confirm (Read a)
+  confirm-true q =
+      let r = rowOf (j .part) in
+      let plain : addressOf command a ≡ a = rw (ne-eqb command 3 (λ e. omega arith)) in
+      let s = rw plain at (confirm-shows (j .part) command a x (j .p) (j .wp) (w .cells) (w .held .device) accepted whole rests heeded) in
+      ap (λ (h : Chip). shows (j .part) h (confirm .cycle)) met-is ∙ (s ∙ sym (ap (λ (h : Chip). valueOf (r .width) (getD (h .cells) a 0)) met-leads))
+
   -- each of them is what it is counted and told as
-  polls-apiece : (m : ℕ) (v : World) → Apiece (j .part) v (replicate m (sent Poll (cycle (j .p) (j .wp) (Read a))) ++ (sent Confirm (cycle confirmAfter (j .wp) (Read a)) ∷ []))
-  polls-apiece zero v = (read-piece (j .part) (chipOf v) Confirm confirmAfter (j .wp) a refl refl, tt)
-  polls-apiece (suc m) v = (read-piece (j .part) (chipOf v) Poll (j .p) (j .wp) a refl refl, polls-apiece m _)
+  polls-apiece : (m : ℕ) (v : World) → ShowsCell (j .part) (chipOf (playOf (j .part) v (replicate m poll))) confirm (Read a) → Apiece (j .part) v (replicate m poll ++ (confirm ∷ []))
+  polls-apiece zero v t = (read-piece (j .part) (chipOf v) Confirm confirmAfter (j .wp) a refl refl t, tt)
+  polls-apiece (suc m) v t = (read-piece (j .part) (chipOf v) Poll (j .p) (j .wp) a refl refl (λ q. apart q), polls-apiece m _ t)
 
   operated-apiece : Apiece (j .part) w (operated j command a x)
   unfolding operated
@@ -177,7 +224,7 @@ module _ (j : Job) (command a x : ℕ) (few : command ≤ 1) (row : j .row ≡ r
       (apiece-append (j .part) w (writesSent (j .wp) command (writesOf (rowOf (j .part)) command a x)) _
       (apiece-writes (j .part) (j .wp) command (writesOf (rowOf (j .part)) command a x) o few refl w
       (last-write-starts (j .part) command a x (j .wp) (w .cells) (w .held .device) asks whole rests heeded))
-      (polls-apiece n _))
+      (polls-apiece n _ confirm-true))
 
   pub starts-operated : Starts (j .part) w (operated j command a x) (o ∷ [])
   starts-operated =

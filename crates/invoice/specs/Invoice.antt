@@ -14,11 +14,12 @@ use Rattle.chip.specs.declared.cycle.Cycle.{Cycle}
 use Rattle.chip.specs.Device.{freshDevice, idle}
 use Rattle.chip.specs.Cycle.{chip}
 use Rattle.chip.specs.Trace.{play, startedIn, uncut as uncutAll}
+use Rattle.chip.specs.Recent.{later}
 use Rattle.driver.specs.Reads.{Scans, Polls, Confirms, Place, placesIn, howMany}
 use Rattle.values.specs.Total.{sumOf}
 use Rattle.job.specs.Sent.{sentOf}
 use Rattle.job.specs.Bill.{jobFrom, playedAll, Loaded, Reported}
-use Rattle.invoice.specs.Started.{cyclesIn, timeIn, lastIn, lastShown, toldLast, many}
+use Rattle.invoice.specs.Started.{cyclesIn, timeIn, ShowCells, lastIn, lastShown, toldLast, many}
 
 -- the job's bus cycles
 abbrev pub sentCycles : ℕ → List ℕ → ℕ → List ℕ → Bool → ℕ → List Cycle
@@ -59,14 +60,17 @@ pub record Invoice (part : ℕ) (cells : List ℕ) (first : ℕ) (image : List �
   pub scanned : l .bill .scans ≡ howMany Scans (placesSent part cells first image wp p)
   pub confirmed : l .bill .confirms ≡ howMany Confirms (placesSent part cells first image wp p)
   pub timed : l .bill .spent ≡ timeIn (sentCycles part cells first image wp p)
-  -- polls = sum of N over operations; spent = polls times p; confirms = erases + programs
+  -- each scan and each confirming read shows the value of its cell: no inverted word is taken for one
+  pub words : ShowCells part (chip cells freshDevice) (sentOf (jobFrom part first (length image) wp p) image cells)
+  -- polls = sum of N over operations; spent = polls times p, and a µs for each confirming read; confirms = erases + programs
   pub polls : l .bill .polls ≡ l .bill .erases * pollsOf (rowOf part) SECTOR p + l .bill .programs * pollsOf (rowOf part) PROGRAM p
-  pub spent : l .bill .spent ≡ l .bill .polls * p
+  pub spent : l .bill .spent ≡ l .bill .polls * p + l .bill .confirms
   pub confirms : l .bill .confirms ≡ l .bill .erases + l .bill .programs
   -- scans = cells in range plus cells of unerased sectors: with the cells of erased sectors they are twice the range's
   pub scans : l .bill .scans + l .bill .erases * sectorSize (rowOf part .width) ≡ length image + length image
-  -- saved = (every sector erased and every cell programmed, each at N times p) less spent
-  pub saved : l .bill .saved + l .bill .spent ≡ length image / sectorSize (rowOf part .width) * (pollsOf (rowOf part) SECTOR p * p) + length image * (pollsOf (rowOf part) PROGRAM p * p)
+  -- saved = (every sector erased and every cell programmed, each at N times p and 1 µs) less spent
+  pub saved : l .bill .saved + l .bill .spent
+      ≡ length image / sectorSize (rowOf part .width) * (pollsOf (rowOf part) SECTOR p * p + 1) + length image * (pollsOf (rowOf part) PROGRAM p * p + 1)
   -- sum = the range's values added in 16 bits, wrapping; and the answer is 0
   pub sum : l .bill .sum ≡ sumOf (rowOf part .width) (take (length image) (drop first (l .cells)))
   pub answer : l .bill .answer ≡ 0
@@ -95,11 +99,12 @@ pub record Partly (part : ℕ) (cells : List ℕ) (first : ℕ) (image : List �
   pub sent : l .report .sent ≡ length (firstSent part cells first image wp p k)
   pub answer : l .report .answer ≡ 0
 
--- a list of bus cycles that also loads the image: from the same cells and an idle device, without cut, block or chip erase, to an idle device
+-- a list of bus cycles that also loads the image: from the same cells and an idle device, without cut, block or chip erase, to a device that is idle, or is so
+-- some time later, as it is where the last operation has just completed
 pub record Rival (part : ℕ) (cells : List ℕ) (first : ℕ) (image : List ℕ) (d : Device) (cs : List Cycle) : Type 0 where
   pub begins : idle d ≡ true
   pub uncut : uncutAll cs ≡ true
   pub blocks : many BLOCK (startedIn part (chip cells d) cs) ≡ 0
   pub chips : many CHIP (startedIn part (chip cells d) cs) ≡ 0
-  pub ends : idle (play part (chip cells d) cs .device) ≡ true
+  pub ends : idle (later (play part (chip cells d) cs .device)) ≡ true
   pub holds : (i : ℕ) → i < length image → valueOf (rowOf part .width) (getD (play part (chip cells d) cs .cells) (first + i) 0) ≡ getD image i 0

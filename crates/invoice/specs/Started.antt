@@ -1,18 +1,26 @@
--- Of sent cycles: their µs added up, the last one and what it shows; and of the operations that they start, how many are of a kind, and their table times
+-- Of sent cycles: their µs added up, what those show that are taken for a cell's value, the last one and what it shows; and of the operations that they start, how many are of a kind, and their table times
 -- added up.
 use Prim.Native.Nat.{ℕ, _+_}
+use mathlib.Core.Path.{_≡_}
+use mathlib.Core.Bool.{Bool, true, false}
 use mathlib.Core.List.{List, [], _∷_, map}
 use lib.Dec.{eqb}
+use lib.ListN.{getD}
 use Rattle.parts.specs.Names.{NO-CYCLE, A-READ}
 use Rattle.parts.specs.Pick.{pick, _when_, _else_}
+use Rattle.parts.specs.Width.{valueOf}
+use Rattle.parts.specs.Table.{rowOf}
 use Rattle.parts.specs.Time.{timeOf}
 use Rattle.parts.specs.declared.table.Row.{Row}
 use Rattle.chip.specs.declared.device.Operation.{Operation}
-use Rattle.chip.specs.declared.cycle.Action.the-variants.{Read, Write}
+use Rattle.chip.specs.declared.cycle.Action.{Action}
+use Rattle.chip.specs.declared.cycle.Action.the-variants.{Read, Write, Idle, Cut}
 use Rattle.chip.specs.declared.cycle.Cycle.{Cycle}
 use Rattle.chip.specs.Cycle.{cycle, Chip}
 use Rattle.chip.specs.Trace.{after}
 use Rattle.driver.specs.Talk.{shows}
+use Rattle.job.specs.declared.loader.Purpose.{Purpose}
+use Rattle.job.specs.declared.loader.Purpose.the-variants.{Scan, Lead, Begin, Poll, Confirm}
 use Rattle.job.specs.declared.run.Last.{Last}
 use Rattle.job.specs.Run.{Sent}
 
@@ -25,7 +33,27 @@ abbrev pub timeIn : List Cycle → ℕ
 timeIn [] = 0
 timeIn (c ∷ cs) = c .elapsed + timeIn cs
 
--- the last one, if any
+-- ---- what is taken for a cell's value: a scan, and the confirming read
+abbrev pub takesValue : Purpose → Bool
+takesValue Scan = true
+takesValue Lead = false
+takesValue (Begin k) = false
+takesValue Poll = false
+takesValue Confirm = true
+
+-- what such a read shows on the chip h is the value of its cell, as the cell is once the read's time has passed
+abbrev pub ShowsCell : ℕ → Chip → Sent → Action → Type 0
+ShowsCell part h s (Read a) = takesValue (s .purpose) ≡ true → shows part h (s .cycle) ≡ valueOf (rowOf part .width) (getD (after part h (s .cycle) .cells) a 0)
+ShowsCell part h s (Write a x) = Unit {0}
+ShowsCell part h s Idle = Unit {0}
+ShowsCell part h s (Cut x) = Unit {0}
+
+-- each of a list, from h on
+abbrev pub ShowCells : ℕ → Chip → List Sent → Type 0
+ShowCells part h [] = Unit {0}
+ShowCells part h (s ∷ L) = ShowsCell part h s (s .cycle .action) × ShowCells part (after part h (s .cycle)) L
+
+-- ---- the last one, if any
 abbrev pub lastIn : List Cycle → List Cycle
 lastIn [] = []
 lastIn (c ∷ []) = c ∷ []

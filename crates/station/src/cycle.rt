@@ -8,7 +8,7 @@ ghost use mathlib.Core.Path.{_≡_};
 ghost use Rattle.chip.specs.Device.{freshDevice};
 ghost use Rattle.bus.specs.Cycle.{cycledOf, deviceNumbers};
 
-// A fresh device: read mode, no sequence begun, nothing running.
+// A fresh device: read mode, no sequence begun, nothing running, no completion 0 µs old.
 #[no_mangle]
 pub extern "C" fn station_fresh() -> DeviceNumbers
     ensures { λ r. ⌜ r ≡ deviceNumbers freshDevice ⌝ }
@@ -21,6 +21,7 @@ pub extern "C" fn station_fresh() -> DeviceNumbers
         data: 0,
         left: 0,
         toggle: 0,
+        recent: 0,
     }
 }
 

@@ -12,7 +12,7 @@ returns c = let at = c .before .before in
 
 returns-2 : tie.Need-returns-2
 unfolding readOf
-returns-2 c = simp (sym (c .before .before .is-busy .ensures) ∙ c .before .if1 .left, c .rest-value .ensures)
+returns-2 c = simp (sym (c .before .before .is-busy .ensures) ∙ c .before .if1 .left, c .outputs .ensures)
 
 pub look-spec : {M : Type 1} → statement M
 look-spec = tie.close (tie.spec (λ c κs. search needs) (λ c κs. search needs) (λ c κs. search needs) (λ c κs. search needs) returns (λ c κs. search needs) returns-2)

@@ -8,7 +8,7 @@ use Rattle.chip.proofs.cycle.settle.Tie as tie
 
 returns : tie.Need-returns
 unfolding settledOf
-returns c = simp (le-ltb _ _ (c .if1 .taken)) (refl, refl)
+returns c = simp (le-ltb _ _ (c .before .if1 .taken)) (c .aged-by .ensures, refl)
 
 returns-2 : tie.Need-returns-2
 unfolding settledOf
@@ -23,4 +23,4 @@ unfolding settledOf
 returns-3 c = let at = c .before .before .before in simp (lt-ltb 0 _ (at .before .before .before .if1 .left), le-ltb _ _ (at .before .before .if2 .left)) (c .at-rest .ensures, at .complete .ensures)
 
 pub settle-spec : {M : Type 1} → statement M
-settle-spec = tie.close (tie.spec returns (λ c. search needs) (λ c κs. search needs) (λ c κs. search needs) returns-2 complete-requires (λ c κs. search needs) (λ c. search needs) returns-3)
+settle-spec = tie.close (tie.spec (λ c κs. search needs) returns (λ c. search needs) (λ c κs. search needs) (λ c κs. search needs) returns-2 complete-requires (λ c κs. search needs) (λ c. search needs) returns-3)

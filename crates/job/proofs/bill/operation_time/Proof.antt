@@ -22,7 +22,7 @@ add-result c = let b = c .before .before .before in
 returns : tie.Need-returns
 unfolding confirmAfter
 returns c = let p = c .before .before .before .args .job .p in
-    ap (λ (n : ℕ). n * p + 0) (c .before .rounded-up .ensures ∙ ap (λ (t : ℕ). roundedUp t p) (c .before .before .time .ensures))
+    ap (λ (n : ℕ). n * p + confirmAfter) (c .before .rounded-up .ensures ∙ ap (λ (t : ℕ). roundedUp t p) (c .before .before .time .ensures))
 
 pub operation-time-spec : {M : Type 1} → statement M
 operation-time-spec =
