@@ -15,10 +15,11 @@ static void set_line(struct bill_line *line, const char *name, uint64_t number, 
     snprintf(line->unit, sizeof line->unit, "%s%s", unit, counted && number != 1 ? "s" : "");
 }
 
-void bill_lines(const struct station_bill *bill, struct bill_line lines[BILL_LINES])
+void bill_lines(const struct station_bill *bill, uint32_t p, struct bill_line lines[BILL_LINES])
 {
     char saved[WORD], share[WORD], whole[WORD];
     const uint64_t full = bill->saved + bill->spent;
+    const uint64_t polling = bill->polls * p; /* the rest of what was spent is the confirming reads' */
     set_line(&lines[0], "saved", bill->saved, MICROS, false);
     set_line(&lines[1], "spent", bill->spent, MICROS, false);
     set_line(&lines[2], "erases", bill->erases, "sector", true);
@@ -33,13 +34,17 @@ void bill_lines(const struct station_bill *bill, struct bill_line lines[BILL_LIN
                  time_text(bill->saved, saved), share_text(bill->saved, full, share), time_text(full, whole));
     if (bill->spent >= 1000)
         time_text(bill->spent, lines[1].remark);
+    if (bill->polls > 0) {
+        time_text(polling, lines[4].remark);
+        time_text(bill->spent - polling, lines[6].remark);
+    }
     snprintf(lines[7].remark, sizeof lines[7].remark, "%04XH", (unsigned)bill->sum);
 }
 
-void print_bill(const struct station_bill *bill)
+void print_bill(const struct station_bill *bill, uint32_t p)
 {
     struct bill_line lines[BILL_LINES];
-    bill_lines(bill, lines);
+    bill_lines(bill, p, lines);
     for (int i = 0; i < BILL_LINES; i++) {
         printf("%-8s %15s", lines[i].name, lines[i].number);
         if (lines[i].unit[0] != '\0')

@@ -15,11 +15,11 @@ struct bill_line {
 
 #define BILL_LINES 9
 
-/* The lines of an accepted job's bill, in their order. */
-void bill_lines(const struct station_bill *bill, struct bill_line lines[BILL_LINES]);
+/* The lines of the bill of an accepted job that polled every p microseconds, in their order. */
+void bill_lines(const struct station_bill *bill, uint32_t p, struct bill_line lines[BILL_LINES]);
 
 /* Prints them. */
-void print_bill(const struct station_bill *bill);
+void print_bill(const struct station_bill *bill, uint32_t p);
 
 /* Prints the answer line of a refused call, says on standard error what it means, and gives the answer back. */
 int refused(uint32_t answer);

@@ -116,7 +116,7 @@ static int perform(const struct asked *asked, struct job *job, struct values *be
         return status;
     char text[HEADING];
     printf("%s\n", heading(job, text));
-    print_bill(&bill);
+    print_bill(&bill, job->p);
     if (asked->map)
         print_map(map);
     return STATUS_DONE;

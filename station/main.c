@@ -102,7 +102,7 @@ static int command_bill(const char *path)
         if (bill.answer != STATION_TAKEN)
             status = refused(bill.answer);
         else
-            print_bill(&bill);
+            print_bill(&bill, station_job(file.at, file.count).p);
     }
     free_bytes(&file);
     return status;

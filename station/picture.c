@@ -129,10 +129,10 @@ static void put_legend(FILE *to, const struct map *map, unsigned y)
     }
 }
 
-static void put_bill(FILE *to, const struct station_bill *bill, unsigned y)
+static void put_bill(FILE *to, const struct station_bill *bill, uint32_t p, unsigned y)
 {
     struct bill_line lines[BILL_LINES];
-    bill_lines(bill, lines);
+    bill_lines(bill, p, lines);
     for (int i = 0; i < BILL_LINES; i++, y += LINE)
         fprintf(to,
                 "<text class=\"line\" x=\"%d\" y=\"%u\">%s</text>"
@@ -150,7 +150,7 @@ void put_picture(FILE *to, const struct job *job, const struct map *map, const s
     put_head(to, job, legend + LEGEND_ROOM + (BILL_LINES - 1) * LINE + EDGE);
     put_map(to, map, &layout);
     put_legend(to, map, legend);
-    put_bill(to, bill, legend + LEGEND_ROOM);
+    put_bill(to, bill, job->p, legend + LEGEND_ROOM);
     fprintf(to, "</svg>\n");
 }
 

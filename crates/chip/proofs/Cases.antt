@@ -5,7 +5,7 @@ use mathlib.Core.Bool.{Bool, true, false}
 use mathlib.Core.List.{List}
 use native.Mathlib.Omega.{arith}
 use borrow.Author.Tests.{lt-ltb, le-ltb, ne-eqb}
-use lib.Dec.{eqb, ltb}
+use lib.Dec.{eqb}
 use lib.ListN.{length, getD}
 use lib.Pow.{pow-mono, pow-pos}
 use lib.Bits.{xor-lt}
@@ -24,7 +24,7 @@ use Rattle.chip.specs.declared.cycle.Action.{Action}
 use Rattle.chip.specs.declared.cycle.Action.the-variants.{Read, Write, Idle, Cut}
 use Rattle.chip.specs.declared.cycle.Cycle.{Cycle}
 use Rattle.chip.specs.declared.cycle.Shown.{Shown}
-use Rattle.chip.specs.Device.{withLeft, toggled, withRunning, withRecent, atRest, agedBy, busy, device, coreInRange, coreIdle}
+use Rattle.chip.specs.Device.{withLeft, toggled, withRunning, withRecent, atRest, agedBy, busy, device, withCore, coreInRange, coreIdle}
 use Rattle.chip.specs.Operation.{completeOn}
 use Rattle.commands.specs.Commands.{effectOf}
 use Rattle.chip.specs.Sequence.{afterEffect, writtenOf}
@@ -95,22 +95,31 @@ module _ (r : Row) (cells : List ℕ) (k : Core) (e : ℕ) where
   unfolding settledOf
   completes s l = simp (lt-ltb 0 (k .running .left) s, le-ltb e (k .running .left) l)
 
+-- ---- a read at rest, at any stage and in any mode: the value, as the outputs are once its time has passed; nothing else changes
+pub read-at-rest : (part : ℕ) (cells : List ℕ) (d : Device) (a e : ℕ) (wp : Bool) → Accepted part (length cells) d (Read a) → busy (d .core) ≡ false
+    → cycleOf part cells d (cycle e wp (Read a))
+    ≡ outcome cells (outputsOf (rowOf part .width) (agedBy (d .core) e .recent) (shownOf (rowOf part) cells (d .core .mode) a)) (withCore d (agedBy (d .core) e))
+unfolding acceptedOf readOf
+read-at-rest part cells d a e wp w b = accepted-cycle part cells d (cycle e wp (Read a)) w ∙ rw (rests (rowOf part) cells (d .core) e b, b)
+
 -- ---- on the lent cells of a known part
 module _ (part : ℕ) (cells : List ℕ) (known : partRefusal part ≡ 0) (whole : length cells ≡ rowOf part .cells) (a : ℕ) (there : a < rowOf part .cells) where
   -- a read with no sequence begun
+  read-taken : (k : Core) → coreInRange (rowOf part) k ≡ true → Accepted part (length cells) (device k 0) (Read a)
+  unfolding actionRefusal
+  read-taken k i = record { known = known; whole = whole; state = in-range (rowOf part) k 0 (stage-none k) i; reach = simp (lt-ltb a (rowOf part .cells) there) }
+
   read-accepted : (k : Core) (e : ℕ) (wp : Bool) → coreInRange (rowOf part) k ≡ true
       → cycleOf part cells (device k 0) (cycle e wp (Read a)) ≡ acceptedOf (rowOf part) cells (device k 0) (cycle e wp (Read a))
-  unfolding actionRefusal
-  read-accepted k e wp i =
-      accepted-cycle part cells (device k 0) (cycle e wp (Read a))
-      (record { known = known; whole = whole; state = in-range (rowOf part) k 0 (stage-none k) i; reach = simp (lt-ltb a (rowOf part .cells) there) })
+  read-accepted k e wp i = accepted-cycle part cells (device k 0) (cycle e wp (Read a)) (read-taken k i)
 
-  -- at rest in read mode it shows the cell's value, as the outputs are once its time has passed
-  pub read-rests : (k : Core) (e : ℕ) (wp : Bool) → busy k ≡ false → k .mode ≡ ReadMode
+  -- at rest in read mode it shows the cell's value so
+  read-rests : (k : Core) (e : ℕ) (wp : Bool) → busy k ≡ false → k .mode ≡ ReadMode
       → cycleOf part cells (device k 0) (cycle e wp (Read a))
       ≡ outcome cells (outputsOf (rowOf part .width) (agedBy k e .recent) (valueOf (rowOf part .width) (getD cells a 0))) (device (agedBy k e) 0)
-  unfolding acceptedOf readOf
-  read-rests k e wp b m = read-accepted k e wp (rest-range (rowOf part) k b) ∙ rw (rests (rowOf part) cells k e b) (simp (b, m))
+  read-rests k e wp b m =
+      read-at-rest part cells (device k 0) a e wp (read-taken k (rest-range (rowOf part) k b)) b
+      ∙ ap (λ (m : Mode). outcome cells (outputsOf (rowOf part .width) (agedBy k e .recent) (shownOf (rowOf part) cells m a)) (device (agedBy k e) 0)) m
 
   -- so of an idle device the value; and the device stays as it is
   pub read-idle : (k : Core) (e : ℕ) (wp : Bool) → coreIdle k ≡ true

@@ -1,5 +1,5 @@
 -- The outputs while a completion is 0 µs old: all the part's bits but 7 are inverted, and no other. Over any width from 8 on, once.
-use Prim.Native.Nat.{ℕ, zero, suc, _+_, _-_, _*_, _/_, _%_, _^_, _≤_, _<_}
+use Prim.Native.Nat.{ℕ, zero, suc, _-_, _*_, _/_, _%_, _^_, _≤_, _<_}
 use mathlib.Core.Path.{_≡_, refl, sym, ap, ap₂, _∙_}
 use mathlib.Core.Bool.{Bool, true, false}
 use native.Mathlib.Nat.{pow-suc, mod-lt, mod-eq-of-lt, div-div-eq-div-mul, mul-comm, not-suc-le-zero, le-of-suc-le-suc}

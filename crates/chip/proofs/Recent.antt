@@ -7,7 +7,7 @@ use native.Mathlib.Nat.{le-of-eq}
 use native.Mathlib.Omega.{arith}
 use borrow.Author.Tests.{ltb-true, eq-eqb, ne-eqb}
 use lib.Dec.{eqb, ltb}
-use lib.ListN.{length, getD}
+use lib.ListN.{length}
 use Rattle.parts.specs.Pick.{pick}
 use Rattle.parts.specs.Table.{rowOf}
 use Rattle.parts.specs.declared.table.Row.{Row}
@@ -30,7 +30,7 @@ use Rattle.chip.specs.Trace.{after, effectStarts, actionStarts, startedB
 use Rattle.chip.specs.Recent.{DifferButSeven, recentOnce, none}
 use Rattle.chip.proofs.Accepted.{Accepted, accepted, accepting, busy-valid, ranges}
 use Rattle.chip.proofs.Idle.{some-time-ages}
-use Rattle.chip.proofs.Cases.{accepted-cycle, rests, completes}
+use Rattle.chip.proofs.Cases.{accepted-cycle, read-at-rest, completes}
 use Rattle.chip.proofs.Outputs.{differ-so}
 use Rattle.chip.proofs.Sampled.{twice, sampled}
 use Rattle.chip.proofs.Ranges.{after-range, after-length}
@@ -109,21 +109,19 @@ module _ (part : ℕ) (cells : List ℕ) (d : Device) (a : ℕ) (z : cycleRefusa
         reach = g .reach;
       })
 
-  -- At rest, at any stage and in any mode: the value, as the outputs are once the read's time has passed. Nothing else changes.
-  pub read-at-rest : (e : ℕ) (wp : Bool) → busy (d .core) ≡ false
+  rested : (e : ℕ) (wp : Bool) → busy (d .core) ≡ false
       → cycleOf part cells d (cycle e wp (Read a)) ≡ outcome cells (outputsOf (r .width) (agedBy (d .core) e .recent) (shownOf r cells (d .core .mode) a)) (withCore d (agedBy (d .core) e))
-  unfolding acceptedOf readOf
-  read-at-rest e wp b = taken e wp ∙ rw (rests r cells (d .core) e b, b)
+  rested e wp b = read-at-rest part cells d a e wp (accepted part (length cells) d (Read a) z) b
 
-  -- so after some time it is the value,
+  -- after some time it shows the value,
   shows-later : (e : ℕ) (wp : Bool) → 0 < e → busy (d .core) ≡ false → looks e wp ≡ shownOf r cells (d .core .mode) a
   shows-later e wp some b =
-      ap (λ (o : Outcome). o .reply .value) (read-at-rest e wp b)
+      ap (λ (o : Outcome). o .reply .value) (rested e wp b)
       ∙ ap (λ (k : Core). outputsOf (r .width) (k .recent) (shownOf r cells (d .core .mode) a)) (some-time-ages (d .core) e some)
 
   -- and at once, a completion being 0 µs old, its bits but 7 inverted
   shows-at-once : (wp : Bool) → d .core .recent ≡ true → busy (d .core) ≡ false → looks 0 wp ≡ inverted (r .width) (shownOf r cells (d .core .mode) a)
-  shows-at-once wp n b = ap (λ (o : Outcome). o .reply .value) (read-at-rest 0 wp b) ∙ rw n
+  shows-at-once wp n b = ap (λ (o : Outcome). o .reply .value) (rested 0 wp b) ∙ rw n
 
   -- The read in which an operation completes with e just what was left of it: the value then, its bits but 7 inverted.
   pub read-at-once : (e : ℕ) (wp : Bool) → 0 < e → d .core .running .left ≡ e

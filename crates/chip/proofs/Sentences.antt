@@ -13,6 +13,7 @@ use Rattle.parts.specs.Span.{hasBlocks}
 use Rattle.parts.specs.declared.table.Row.{Row}
 use Rattle.parts.proofs.Every.{split}
 use Rattle.parts.proofs.Sound.{known}
+use Rattle.commands.specs.declared.effect.Mode.{Mode}
 use Rattle.commands.specs.declared.effect.Mode.the-variants.{ReadMode, Identification}
 use Rattle.chip.specs.declared.device.Operation.{Operation}
 use Rattle.chip.specs.declared.device.Core.{Core}
@@ -27,10 +28,10 @@ use Rattle.chip.specs.Device.{noOperation, busy, device, withCore, fresh
 use Rattle.commands.specs.Commands.{broken, effectOf}
 use Rattle.chip.specs.Operation.{cellsOf, over, scarred, cutOn}
 use Rattle.chip.specs.Sequence.{afterEffect, writtenOf}
-use Rattle.chip.specs.Cycle.{cycle, Chip, chip, Outcome, outcome, identity, outputsOf, readOf, cutOf, settledOf, Settled, afterTime, actionRefusal, cycleRefusal, actedOf, acceptedOf, cycleOf}
+use Rattle.chip.specs.Cycle.{cycle, Chip, chip, Outcome, outcome, identity, shownOf, outputsOf, readOf, cutOf, settledOf, Settled, afterTime, actionRefusal, cycleRefusal, actedOf, acceptedOf, cycleOf}
 use Rattle.chip.specs.Trace.{leaves, after, play, effectStarts, actionStarts, startedBy, startedIn}
 use Rattle.chip.proofs.Accepted.{accepted}
-use Rattle.chip.proofs.Cases.{accepted-cycle, refused-cycle, rests, write-leaves, write-starts}
+use Rattle.chip.proofs.Cases.{accepted-cycle, refused-cycle, rests, read-at-rest, write-leaves, write-starts}
 use Rattle.commands.proofs.Effects.{effect-is}
 use Rattle.chip.proofs.Sampled.{twice, sampled}
 use Rattle.commands.proofs.Broken.{continues, is-broken, resets, no-blocks}
@@ -89,11 +90,9 @@ module _ (part : ℕ) (cells : List ℕ) (d : Device) (e : ℕ) (wp : Bool) wher
   -- In identification mode address 0 shows the maker, BFH, 1 the device, others 0, as the outputs are once the cycle's time has passed; nothing else changes.
   pub identifies : (a : ℕ) → Taken (Read a) → busy (d .core) ≡ false → d .core .mode ≡ Identification
       → gives (Read a) ≡ outcome cells (outputsOf (rowOf part .width) (agedBy (d .core) e .recent) (getD (0xbf ∷ rowOf part .device ∷ []) a 0)) (withCore d (agedBy (d .core) e))
-  unfolding acceptedOf readOf
   identifies a z b m =
-      taken (Read a) z
-      ∙ rw (rests (rowOf part) cells (d .core) e b)
-      (simp (b, m) (rw m at (ap (λ (v : ℕ). outcome cells (outputsOf (rowOf part .width) (agedBy (d .core) e .recent) v) (withCore d (agedBy (d .core) e))) (same a))))
+      let shows : ℕ → Outcome = λ v. outcome cells (outputsOf (rowOf part .width) (agedBy (d .core) e .recent) v) (withCore d (agedBy (d .core) e)) in
+      read-at-rest part cells d a e wp (accepted part (length cells) d (Read a) z) b ∙ (ap (λ (m : Mode). shows (shownOf (rowOf part) cells m a)) m ∙ ap shows (same a))
     where
       same : (a : ℕ) → identity (rowOf part) a ≡ getD (0xbf ∷ rowOf part .device ∷ []) a 0
       same zero = refl

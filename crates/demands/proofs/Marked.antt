@@ -32,7 +32,7 @@ use Rattle.invoice.proofs.Loads.{deciding, decidingAll, reckoned, loads}
 use Rattle.billing.specs.File.{blankBench}
 use Rattle.demands.specs.Marked.{Cell, Case, Marked, Bus, Load, Ran, cases, holding, imageOf, loadSixth, afterJobs, sameBill, further, ran, asSaid, before, holdsCase, holdsMarked}
 use Rattle.table.specs.Figures.{figureOf}
-use Rattle.demands.specs.Beside.{sheets, shownAll, figures, partsAre, protectedEnds, comparedBits, sentences, words}
+use Rattle.demands.specs.Beside.{sheets, shownAll, figures, partsAre, protectedEnds, comparedBits, sentences, edges}
 use Rattle.chip.proofs.Ranges.{after-length}
 
 -- a cycle on cells that are known to be n
@@ -153,10 +153,10 @@ unfolding holdsOn ranOn cycleOn rowOf partRefusal fitsIn sectorSize holdsb hasBl
     stageInRange deviceInRange cellsOf completeOn cutOn effectOf ignored writtenOf actionRefusal cycleRefusal settledOf readOf cutOf acceptedOf
 computed-sentences = refl
 
-computed-words : every holdsOn words ≡ true
+computed-edges : every holdsOn edges ≡ true
 unfolding holdsOn ranOn cycleOn rowOf partRefusal fitsIn sectorSize holdsb hasBlocks sectorOf blockOf protectedOf hasCommand timeOf validOperation coreInRange
     stageInRange deviceInRange cellsOf completeOn cutOn effectOf ignored writtenOf actionRefusal cycleRefusal settledOf readOf cutOf acceptedOf
-computed-words = refl
+computed-edges = refl
 
 -- The part table, entry by entry, as the chip shows it; both ends of the protected blocks and the compared bits; and sentences that no marked case touches.
 pub sheets-shown : every holdsCase (shownAll sheets) ≡ true
@@ -169,8 +169,8 @@ pub sentences-shown : every holdsCase sentences ≡ true
 sentences-shown = on-cases sentences computed-sentences
 
 -- Document 02, Wish 1: the word at its edge.
-pub words-shown : every holdsCase words ≡ true
-words-shown = on-cases words computed-words
+pub edges-shown : every holdsCase edges ≡ true
+edges-shown = on-cases edges computed-edges
 
 -- The figures of every part are document 01's.
 pub figures-shown : partsAre 0 figures ≡ true

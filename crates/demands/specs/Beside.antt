@@ -53,13 +53,12 @@ on part fill cycles reads cells pending =
 abbrev pub identify : ℕ → ℕ → List Cycle
 identify u v = write u 0xaa ∷ write v 0x55 ∷ write u 0x90 ∷ []
 
--- bit 7 of a word
-abbrev pub seven : ℕ
-seven = 0x80
+-- what a read at the moment of completion shows, all the part's bits but 7 inverted: of blank, and of a value whose bit 7 is 0
+abbrev pub blankAtOnce : ℕ
+blankAtOnce = 0x80
 
--- a value with all the part's bits but 7 inverted, whose bit 7 is 0
-abbrev pub turned : Sheet → ℕ → ℕ
-turned s v = s .blank - v - seven
+abbrev pub atOnce : Sheet → ℕ → ℕ
+atOnce s v = s .blank - v - 0x80
 
 -- identification at 0, 1, 2 and 256; a program that is busy a µs before its time and done then, its word read at that moment, again
 -- with no time between, and a µs later; a sector erase and a chip erase, the same, and the cells around the sector
@@ -68,7 +67,7 @@ shown s =
     on (s .part) 0 (identify (s .u1) (s .u2) ++ (read 0 0 ∷ read 0 1 ∷ read 0 2 ∷ read 0 256 ∷ [])) (0xbf ∷ s .device ∷ 0 ∷ 0 ∷ []) [] false
     ∷ on (s .part) (s .blank) (arm (s .u1) (s .u2) ++ (write 7 0x12 ∷ idleFor (s .program - 1) ∷ read 0 7 ∷ [])) (0x00c0 ∷ []) (cell 7 (s .blank) ∷ []) true
     ∷ on (s .part) (s .blank) (arm (s .u1) (s .u2) ++ (write 7 0x12 ∷ idleFor (s .program - 1) ∷ read 1 7 ∷ read 0 7 ∷ read 1 7 ∷ []))
-    (turned s 0x12 ∷ turned s 0x12 ∷ 0x12 ∷ [])
+    (atOnce s 0x12 ∷ atOnce s 0x12 ∷ 0x12 ∷ [])
     (cell 7 0x12 ∷ [])
     false
     ∷ on (s .part) 0 (unlock (s .u1) (s .u2) ++ (write (s .sector + 5) (s .code) ∷ idleFor (s .erase - 1) ∷ read 0 0 ∷ [])) (0x0040 ∷ []) (cell (s .sector) 0 ∷ []) true
@@ -78,7 +77,7 @@ shown s =
     false
     ∷ on (s .part) 0
     (unlock (s .u1) (s .u2) ++ (write (s .sector + 5) (s .code) ∷ read (s .erase) (s .sector) ∷ read 0 0 ∷ read 1 (s .sector) ∷ read 0 0 ∷ []))
-    (seven ∷ turned s 0 ∷ s .blank ∷ 0 ∷ [])
+    (blankAtOnce ∷ atOnce s 0 ∷ s .blank ∷ 0 ∷ [])
     []
     false
     ∷ on (s .part) 0 (unlock (s .u1) (s .u2) ++ (write (s .u1) 0x10 ∷ idleFor (s .chip - 1) ∷ read 0 0 ∷ [])) (0x0040 ∷ []) [] true
@@ -176,27 +175,27 @@ sentences =
 
 -- ---- document 02, Wish 1: the word comes a microsecond after bit 7
 -- a program of 1234H at 7 on part 5, which takes 14 µs, and what follows
-abbrev pub programming : List Cycle → List Cycle
-programming cs = arm 0x5555 0x2aaa ++ (write 7 0x1234 ∷ cs)
+abbrev pub writing1234 : List Cycle → List Cycle
+writing1234 cs = arm 0x5555 0x2aaa ++ (write 7 0x1234 ∷ cs)
 
-abbrev pub words : List Case
-words =
+abbrev pub edges : List Case
+edges =
     -- read 0 µs after completion, and 1 µs later; on an eight-bit part, too
-    on 5 0xffff (programming (read 14 7 ∷ read 1 7 ∷ [])) (0xed4b ∷ 0x1234 ∷ []) (cell 7 0x1234 ∷ []) false
+    on 5 0xffff (writing1234 (read 14 7 ∷ read 1 7 ∷ [])) (0xed4b ∷ 0x1234 ∷ []) (cell 7 0x1234 ∷ []) false
     ∷ on 3 0xff (arm 0x5555 0x2aaa ++ (write 7 0x34 ∷ read 14 7 ∷ read 1 7 ∷ [])) (0x4b ∷ 0x34 ∷ []) (cell 7 0x34 ∷ []) false
     -- with more time than was left it is never seen
-    ∷ on 5 0xffff (programming (read 15 7 ∷ read 0 7 ∷ [])) (0x1234 ∷ 0x1234 ∷ []) [] false
+    ∷ on 5 0xffff (writing1234 (read 15 7 ∷ read 0 7 ∷ [])) (0x1234 ∷ 0x1234 ∷ []) [] false
     -- cycles with 0 µs keep it: reads at any address, idle ones, stray writes, a sequence begun; any time ends it
-    ∷ on 5 0xffff (programming (idleFor 14 ∷ read 0 8 ∷ idleFor 0 ∷ read 0 7 ∷ [])) (0x0080 ∷ 0xed4b ∷ []) [] false
-    ∷ on 5 0xffff (programming (idleFor 14 ∷ write 0 0 ∷ read 0 7 ∷ write 0x5555 0xaa ∷ read 0 7 ∷ read 1 7 ∷ [])) (0xed4b ∷ 0xed4b ∷ 0x1234 ∷ []) [] false
-    ∷ on 5 0xffff (programming (idleFor 14 ∷ idleFor 1 ∷ read 0 7 ∷ [])) (0x1234 ∷ []) [] false
+    ∷ on 5 0xffff (writing1234 (idleFor 14 ∷ read 0 8 ∷ idleFor 0 ∷ read 0 7 ∷ [])) (0x0080 ∷ 0xed4b ∷ []) [] false
+    ∷ on 5 0xffff (writing1234 (idleFor 14 ∷ write 0 0 ∷ read 0 7 ∷ write 0x5555 0xaa ∷ read 0 7 ∷ read 1 7 ∷ [])) (0xed4b ∷ 0xed4b ∷ 0x1234 ∷ []) [] false
+    ∷ on 5 0xffff (writing1234 (idleFor 14 ∷ idleFor 1 ∷ read 0 7 ∷ [])) (0x1234 ∷ []) [] false
     -- in identification mode the codes are inverted
-    ∷ on 5 0xffff (programming (idleFor 14 ∷ (identify 0x5555 0x2aaa ++ (read 0 0 ∷ read 0 1 ∷ read 0 2 ∷ read 1 0 ∷ [])))) (0xffc0 ∷ 0xd8ff ∷ 0xff7f ∷ 0xbf ∷ []) [] false
+    ∷ on 5 0xffff (writing1234 (idleFor 14 ∷ (identify 0x5555 0x2aaa ++ (read 0 0 ∷ read 0 1 ∷ read 0 2 ∷ read 1 0 ∷ [])))) (0xffc0 ∷ 0xd8ff ∷ 0xff7f ∷ 0xbf ∷ []) [] false
     -- an ignored command keeps it, too
     ∷ on 0 0xffff (arm 0x555 0x2aa ++ (write 4096 0x1234 ∷ idleFor 14 ∷ (armLow 0x555 0x2aa ++ (writeLow 7 0 ∷ read 0 4096 ∷ [])))) (0xed4b ∷ []) (cell 7 0xffff ∷ []) false
     -- writes are taken as before, and a start ends it
-    ∷ on 5 0xffff (programming (idleFor 14 ∷ (arm 0x5555 0x2aaa ++ (write 8 0 ∷ read 0 7 ∷ read 15 8 ∷ [])))) (0x00c0 ∷ 0 ∷ []) (cell 7 0x1234 ∷ cell 8 0 ∷ []) false
+    ∷ on 5 0xffff (writing1234 (idleFor 14 ∷ (arm 0x5555 0x2aaa ++ (write 8 0 ∷ read 0 7 ∷ read 15 8 ∷ [])))) (0x00c0 ∷ 0 ∷ []) (cell 7 0x1234 ∷ cell 8 0 ∷ []) false
     -- a cut finds the operation complete, and ends it
-    ∷ on 5 0xffff (programming (cycle 14 true (Cut 0x00ff) ∷ read 0 7 ∷ [])) (0x1234 ∷ []) (cell 7 0x1234 ∷ []) false
-    ∷ on 5 0xffff (programming (idleFor 14 ∷ cut 0x00ff ∷ read 0 7 ∷ [])) (0x1234 ∷ []) (cell 7 0x1234 ∷ []) false
+    ∷ on 5 0xffff (writing1234 (cycle 14 true (Cut 0x00ff) ∷ read 0 7 ∷ [])) (0x1234 ∷ []) (cell 7 0x1234 ∷ []) false
+    ∷ on 5 0xffff (writing1234 (idleFor 14 ∷ cut 0x00ff ∷ read 0 7 ∷ [])) (0x1234 ∷ []) (cell 7 0x1234 ∷ []) false
     ∷ []

@@ -1,27 +1,34 @@
 -- Cycles sent that are each what they are counted and told as: then a list of them is, and its first cycles.
 use Prim.Native.Nat.{ℕ, zero, suc, _+_, _≤_}
 use mathlib.Core.Path.{_≡_, refl, sym, ap}
-use mathlib.Core.Bool.{Bool}
-use mathlib.Core.List.{List, [], _∷_, _++_}
+use mathlib.Core.Bool.{Bool, true, false}
+use mathlib.Core.List.{List, [], _∷_, _++_, map}
 use native.Mathlib.Nat.{zero-add}
 use native.Mathlib.Omega.{arith}
-use lib.ListN.{length, take}
+use lib.ListN.{length, getD, take}
+use Rattle.parts.specs.Width.{valueOf}
+use Rattle.parts.specs.Table.{rowOf}
+use Rattle.parts.proofs.Every.{apart}
 use Rattle.chip.specs.declared.device.Operation.{Operation}
-use Rattle.chip.specs.declared.cycle.Action.the-variants.{Read}
+use Rattle.chip.specs.declared.cycle.Action.{Action}
+use Rattle.chip.specs.declared.cycle.Action.the-variants.{Read, Write as Writes, Idle, Cut}
+use Rattle.chip.specs.declared.cycle.Cycle.{Cycle}
 use Rattle.chip.specs.Device.{freshDevice}
 use Rattle.chip.specs.Cycle.{cycle, Chip, chip}
 use Rattle.chip.specs.Trace.{after, startedBy, startedIn}
 use Rattle.chip.proofs.Started.{read-starts, LastStarts}
 use Rattle.commands.specs.declared.write.Write.{Write}
-use Rattle.driver.specs.Talk.{writeCycles}
+use Rattle.driver.specs.Talk.{writeCycles, shows}
+use Rattle.driver.specs.Reads.{Due, Scans, Polls, Confirms, dueAfter, ARead, readAs, placesIn}
 use Rattle.job.specs.declared.loader.Purpose.{Purpose}
-use Rattle.job.specs.declared.loader.Purpose.the-variants.{Begin}
+use Rattle.job.specs.declared.loader.Purpose.the-variants.{Scan, Lead, Begin, Poll, Confirm}
 use Rattle.job.specs.declared.run.Tally.{Tally}
 use Rattle.job.specs.Run.{Sent, sent, World, world, countedOf, noLast, lastOf, noneSent, sendOf, playOf}
 use Rattle.job.specs.Sent.{writesSent}
 use Rattle.job.specs.Formulas.{plus, noTally, tallyOf}
 use Rattle.job.proofs.Rest.{chipOf}
-use Rattle.invoice.specs.Started.{cyclesIn, ShowsCell, ShowCells, toldLast, lastIn, lastShown, many}
+use Rattle.invoice.specs.Started.{cyclesIn, takesValue, ShowsCell, ShowCells, toldLast, lastIn, lastShown, many}
+use Rattle.invoice.proofs.Placed.{purposed, placedAs}
 
 -- ---- counts
 -- the erases and programs of t are the operations os, and no others are among these
@@ -50,15 +57,49 @@ counts-begun zero e o few k = rw k (record { erases = refl; programs = refl; blo
 counts-begun (suc zero) e o few k = rw k (record { erases = refl; programs = refl; blocks = refl; chips = refl })
 counts-begun (suc (suc c)) e o few k = absurd (omega arith)
 
+-- ---- what is sent to be taken for a cell's value, a scan or a confirming read, shows it
+abbrev forValue : Purpose → Bool
+forValue Scan = true
+forValue Lead = false
+forValue (Begin k) = false
+forValue Poll = false
+forValue Confirm = true
+
+abbrev pub ShowsValue : ℕ → Chip → Sent → Action → Type 0
+ShowsValue part h s (Read a) = forValue (s .purpose) ≡ true → shows part h (s .cycle) ≡ valueOf (rowOf part .width) (getD (after part h (s .cycle) .cells) a 0)
+ShowsValue part h s (Writes a x) = Unit {0}
+ShowsValue part h s Idle = Unit {0}
+ShowsValue part h s (Cut x) = Unit {0}
+
+-- a poll is not taken for one
+pub poll-shows : (part : ℕ) (h : Chip) (c : Cycle) (a : ℕ) → ShowsValue part h (sent Poll c) (Read a)
+poll-shows part h c a q = apart q
+
+-- so where its place is what its purpose says, it does by its place
+for-value : (u : Due) (p : Purpose) → ARead u ≡ purposed p → takesValue u ≡ true → forValue p ≡ true
+for-value u Scan q v = refl
+for-value u Lead q v = let z : _≡_ {A = ℕ} 0 1 = cc in absurd (omega arith)
+for-value u (Begin k) q v = let z : _≡_ {A = ℕ} 0 1 = cc in absurd (omega arith)
+for-value Scans Poll q v = let z : _≡_ {A = ℕ} 0 1 = cc in absurd (omega arith)
+for-value Polls Poll q v = v
+for-value Confirms Poll q v = let z : _≡_ {A = ℕ} 0 1 = cc in absurd (omega arith)
+for-value u Confirm q v = refl
+
+place-shows : (part : ℕ) (u : Due) (h : Chip) (s : Sent) (a : Action) → readAs u a ≡ placedAs s → ShowsValue part h s a → ShowsCell part u h (s .cycle) a
+place-shows part u h s (Read a) q t = λ v. t (for-value u (s .purpose) q v)
+place-shows part u h s (Writes a x) q t = tt
+place-shows part u h s Idle q t = tt
+place-shows part u h s (Cut x) q t = tt
+
 -- ---- one cycle, on the chip h: it counts the operations that it starts, as the last one it is told, and what is taken for a cell's value is one
 pub record Piece (part : ℕ) (h : Chip) (s : Sent) : Type 0 where
   pub counts : Counts (countedOf noTally (s .purpose) (s .cycle .elapsed)) (startedBy part h (s .cycle))
   pub told : toldLast (lastOf (s .cycle .elapsed) (s .cycle .wp) (s .cycle .action)) ≡ s .cycle ∷ []
-  pub shown : ShowsCell part h s (s .cycle .action)
+  pub shown : ShowsValue part h s (s .cycle .action)
 
 -- a read, counted neither as an erase nor as a program
 pub read-piece : (part : ℕ) (h : Chip) (p : Purpose) (e : ℕ) (wp : Bool) (a : ℕ) → countedOf noTally p e .erases ≡ 0 → countedOf noTally p e .programs ≡ 0
-    → ShowsCell part h (sent p (cycle e wp (Read a))) (Read a) → Piece part h (sent p (cycle e wp (Read a)))
+    → ShowsValue part h (sent p (cycle e wp (Read a))) (Read a) → Piece part h (sent p (cycle e wp (Read a)))
 read-piece part h p e wp a ne np t = record { counts = rw (read-starts part h e wp a) (record { erases = ne; programs = np; blocks = refl; chips = refl }); told = refl; shown = t }
 
 -- ---- a list, from the world w on
@@ -91,11 +132,15 @@ module _ (part : ℕ) where
   apiece-counts w [] a = record { erases = refl; programs = refl; blocks = refl; chips = refl }
   apiece-counts w (s ∷ L) a = counts-plus _ _ _ _ (a .0 .counts) (apiece-counts (sendOf part w (s .purpose) (s .cycle)) L (a .1))
 
-  -- what is taken for a cell's value is one
-  pub apiece-shows : (w : World) (L : List Sent) → Apiece part w L → ShowCells part (chipOf w) L
+  -- what is taken for a cell's value by its place is one
+  pub apiece-shows : (u : Due) (w : World) (L : List Sent) → placesIn part u (chipOf w) (cyclesIn L) ≡ map placedAs L → Apiece part w L → ShowCells part u (chipOf w) (cyclesIn L)
   unfolding sendOf after
-  apiece-shows w [] a = tt
-  apiece-shows w (s ∷ L) a = (a .0 .shown, apiece-shows (sendOf part w (s .purpose) (s .cycle)) L (a .1))
+  apiece-shows u w [] e a = tt
+  apiece-shows u w (s ∷ L) e a =
+      let next = dueAfter part u (chipOf w) (s .cycle) (s .cycle .action) in
+      let first : readAs u (s .cycle .action) ≡ placedAs s = cc in
+      let rest : placesIn part next (after part (chipOf w) (s .cycle)) (cyclesIn L) ≡ map placedAs L = cc in
+      (place-shows part u (chipOf w) s (s .cycle .action) first (a .0 .shown), apiece-shows next (sendOf part w (s .purpose) (s .cycle)) L rest (a .1))
 
   -- the last cycle is the list's, and the reply what that shows
   last-is : (w : World) (s : Sent) (L : List Sent) → Apiece part w (s ∷ L) → toldLast (playOf part w (s ∷ L) .held .last) ≡ lastIn (cyclesIn (s ∷ L))

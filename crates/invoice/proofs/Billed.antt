@@ -95,7 +95,7 @@ module _ (part : ℕ) (cells : List ℕ) (first : ℕ) (image : List ℕ) (wp : 
         scanned = rw (t, e) (c .scans);
         confirmed = rw (t, e) (c .confirms);
         timed = rw t (c .time);
-        words = apiece-shows part (world cells noneSent) (sentOf j image cells) each;
+        words = apiece-shows part Scans (world cells noneSent) (sentOf j image cells) e each;
       })
 
   -- a second call: the first k cycles

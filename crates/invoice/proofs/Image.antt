@@ -43,7 +43,8 @@ use Rattle.values.proofs.Clears.{cleared}
 use Rattle.values.proofs.Places.{fit-at}
 use Rattle.job.proofs.Left.{program-leaves, erase-length, erase-drop, erase-at}
 use Rattle.job.proofs.Sectors.{Ready, Read-on, reads-on}
-use Rattle.invoice.specs.Started.{cyclesIn, ShowsCell}
+use Rattle.invoice.specs.Started.{cyclesIn}
+use Rattle.invoice.proofs.Apiece.{ShowsValue}
 use Rattle.invoice.proofs.Listed.{programming, filling, looking, carrying, sectoring, sectoringAll, operationsOf}
 use Rattle.invoice.proofs.Starts.{world-plays, play-append, operated-cycles, Starts, starts-none, starts-append, starts-read, starts-operated}
 
@@ -196,7 +197,7 @@ module _ (j : Job) (image : List ℕ) (R : AcceptedJob j image) where
   Clear o x = bitAnd (value o) x ≡ x
 
   -- a scan shows the value of its cell
-  scan-true : (a : ℕ) (w : World) → Read-on j image R w a (after-all w (scanRead j a ∷ [])) → ShowsCell (j .part) (chipOf w) (scanRead j a) (Read a)
+  scan-true : (a : ℕ) (w : World) → Read-on j image R w a (after-all w (scanRead j a ∷ [])) → ShowsValue (j .part) (chipOf w) (scanRead j a) (Read a)
   unfolding sendOf after
   scan-true a w o q = o .reply ∙ (ap (λ (r : Row). valueOf (r .width) (at w a)) (R .row) ∙ sym (ap (λ (l : List ℕ). value (getD l a 0)) (o .cells)))
 

@@ -9,7 +9,6 @@ use lib.ListN.{length, getD, replicate}
 use Rattle.parts.specs.Width.{valueOf}
 use Rattle.parts.specs.Table.{rowOf}
 use Rattle.parts.specs.Time.{pollsOf}
-use Rattle.parts.proofs.Every.{apart}
 use Rattle.chip.specs.declared.device.Operation.{Operation}
 use Rattle.chip.specs.declared.cycle.Action.the-variants.{Read}
 use Rattle.chip.specs.declared.cycle.Cycle.{Cycle}
@@ -31,9 +30,9 @@ use Rattle.job.specs.declared.loader.Purpose.the-variants.{Scan, Poll, Confirm}
 use Rattle.job.specs.Run.{Sent, sent, World, sendOf, playOf}
 use Rattle.job.specs.Sent.{writesSent, operated, scanRead}
 use Rattle.job.proofs.Rest.{chipOf}
-use Rattle.invoice.specs.Started.{cyclesIn, ShowsCell}
+use Rattle.invoice.specs.Started.{cyclesIn}
 use Rattle.invoice.proofs.Placed.{placedAs}
-use Rattle.invoice.proofs.Apiece.{Apiece, read-piece, apiece-append, apiece-writes}
+use Rattle.invoice.proofs.Apiece.{ShowsValue, poll-shows, Apiece, read-piece, apiece-append, apiece-writes}
 
 -- ---- no cut
 writes-uncut : (wp : Bool) (ws : List Write) → uncut (writeCycles wp ws) ≡ true
@@ -113,7 +112,7 @@ module _ (part : ℕ) (w : World) where
 
   module _ (j : Job) (a : ℕ) where
     -- a scan that shows the value of its cell
-    pub starts-read : ShowsCell part (chipOf w) (scanRead j a) (Read a) → Starts part w (scanRead j a ∷ []) []
+    pub starts-read : ShowsValue part (chipOf w) (scanRead j a) (Read a) → Starts part w (scanRead j a ∷ []) []
     unfolding sendOf after
     starts-read t = record { begun = rw (read-starts part (chipOf w) 0 (j .wp) a); apiece = (read-piece part (chipOf w) Scan 0 (j .wp) a refl refl t, tt); whole = refl; placed = λ cs. refl }
 
@@ -205,7 +204,7 @@ module _ (j : Job) (command a x : ℕ) (few : command ≤ 1) (row : j .row ≡ r
       = rw row (play-append (j .part) w ws (replicate n poll ++ (confirm ∷ [])) ∙ play-append (j .part) written (replicate n poll) (confirm ∷ [])) in
       sym (ap chipOf e) ∙ left
 
-  confirm-true : ShowsCell (j .part) (chipOf met) confirm (Read a)
+  confirm-true : ShowsValue (j .part) (chipOf met) confirm (Read a)
   confirm-true q =
       let r = rowOf (j .part) in
       let plain : addressOf command a ≡ a = rw (ne-eqb command 3 (λ e. omega arith)) in
@@ -213,9 +212,9 @@ module _ (j : Job) (command a x : ℕ) (few : command ≤ 1) (row : j .row ≡ r
       ap (λ (h : Chip). shows (j .part) h (confirm .cycle)) met-is ∙ (s ∙ sym (ap (λ (h : Chip). valueOf (r .width) (getD (h .cells) a 0)) met-leads))
 
   -- each of them is what it is counted and told as
-  polls-apiece : (m : ℕ) (v : World) → ShowsCell (j .part) (chipOf (playOf (j .part) v (replicate m poll))) confirm (Read a) → Apiece (j .part) v (replicate m poll ++ (confirm ∷ []))
+  polls-apiece : (m : ℕ) (v : World) → ShowsValue (j .part) (chipOf (playOf (j .part) v (replicate m poll))) confirm (Read a) → Apiece (j .part) v (replicate m poll ++ (confirm ∷ []))
   polls-apiece zero v t = (read-piece (j .part) (chipOf v) Confirm confirmAfter (j .wp) a refl refl t, tt)
-  polls-apiece (suc m) v t = (read-piece (j .part) (chipOf v) Poll (j .p) (j .wp) a refl refl (λ q. apart q), polls-apiece m _ t)
+  polls-apiece (suc m) v t = (read-piece (j .part) (chipOf v) Poll (j .p) (j .wp) a refl refl (poll-shows (j .part) (chipOf v) (poll .cycle) a), polls-apiece m _ t)
 
   operated-apiece : Apiece (j .part) w (operated j command a x)
   unfolding operated

@@ -61,7 +61,7 @@ pub record Invoice (part : ℕ) (cells : List ℕ) (first : ℕ) (image : List �
   pub confirmed : l .bill .confirms ≡ howMany Confirms (placesSent part cells first image wp p)
   pub timed : l .bill .spent ≡ timeIn (sentCycles part cells first image wp p)
   -- each scan and each confirming read shows the value of its cell: no inverted word is taken for one
-  pub words : ShowCells part (chip cells freshDevice) (sentOf (jobFrom part first (length image) wp p) image cells)
+  pub words : ShowCells part Scans (chip cells freshDevice) (sentCycles part cells first image wp p)
   -- polls = sum of N over operations; spent = polls times p, and a µs for each confirming read; confirms = erases + programs
   pub polls : l .bill .polls ≡ l .bill .erases * pollsOf (rowOf part) SECTOR p + l .bill .programs * pollsOf (rowOf part) PROGRAM p
   pub spent : l .bill .spent ≡ l .bill .polls * p + l .bill .confirms

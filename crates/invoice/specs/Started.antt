@@ -1,5 +1,5 @@
--- Of sent cycles: their µs added up, what those show that are taken for a cell's value, the last one and what it shows; and of the operations that they start, how many are of a kind, and their table times
--- added up.
+-- Of sent cycles: their µs added up, what the reads show that are taken for a cell's value, the last one and what it shows; and of the operations that they
+-- start, how many are of a kind, and their table times added up.
 use Prim.Native.Nat.{ℕ, _+_}
 use mathlib.Core.Path.{_≡_}
 use mathlib.Core.Bool.{Bool, true, false}
@@ -19,8 +19,7 @@ use Rattle.chip.specs.declared.cycle.Cycle.{Cycle}
 use Rattle.chip.specs.Cycle.{cycle, Chip}
 use Rattle.chip.specs.Trace.{after}
 use Rattle.driver.specs.Talk.{shows}
-use Rattle.job.specs.declared.loader.Purpose.{Purpose}
-use Rattle.job.specs.declared.loader.Purpose.the-variants.{Scan, Lead, Begin, Poll, Confirm}
+use Rattle.driver.specs.Reads.{Due, Scans, Polls, Confirms, dueAfter}
 use Rattle.job.specs.declared.run.Last.{Last}
 use Rattle.job.specs.Run.{Sent}
 
@@ -33,25 +32,23 @@ abbrev pub timeIn : List Cycle → ℕ
 timeIn [] = 0
 timeIn (c ∷ cs) = c .elapsed + timeIn cs
 
--- ---- what is taken for a cell's value: a scan, and the confirming read
-abbrev pub takesValue : Purpose → Bool
-takesValue Scan = true
-takesValue Lead = false
-takesValue (Begin k) = false
-takesValue Poll = false
-takesValue Confirm = true
+-- ---- reads that are taken for a cell's value, told by their places: scans and confirming reads
+abbrev pub takesValue : Due → Bool
+takesValue Scans = true
+takesValue Polls = false
+takesValue Confirms = true
 
 -- what such a read shows on the chip h is the value of its cell, as the cell is once the read's time has passed
-abbrev pub ShowsCell : ℕ → Chip → Sent → Action → Type 0
-ShowsCell part h s (Read a) = takesValue (s .purpose) ≡ true → shows part h (s .cycle) ≡ valueOf (rowOf part .width) (getD (after part h (s .cycle) .cells) a 0)
-ShowsCell part h s (Write a x) = Unit {0}
-ShowsCell part h s Idle = Unit {0}
-ShowsCell part h s (Cut x) = Unit {0}
+abbrev pub ShowsCell : ℕ → Due → Chip → Cycle → Action → Type 0
+ShowsCell part u h c (Read a) = takesValue u ≡ true → shows part h c ≡ valueOf (rowOf part .width) (getD (after part h c .cells) a 0)
+ShowsCell part u h c (Write a x) = Unit {0}
+ShowsCell part u h c Idle = Unit {0}
+ShowsCell part u h c (Cut s) = Unit {0}
 
--- each of a list, from h on
-abbrev pub ShowCells : ℕ → Chip → List Sent → Type 0
-ShowCells part h [] = Unit {0}
-ShowCells part h (s ∷ L) = ShowsCell part h s (s .cycle .action) × ShowCells part (after part h (s .cycle)) L
+-- each of a list, from h on, where u is due
+abbrev pub ShowCells : ℕ → Due → Chip → List Cycle → Type 0
+ShowCells part u h [] = Unit {0}
+ShowCells part u h (c ∷ cs) = ShowsCell part u h c (c .action) × ShowCells part (dueAfter part u h c (c .action)) (after part h c) cs
 
 -- ---- the last one, if any
 abbrev pub lastIn : List Cycle → List Cycle
