@@ -5,7 +5,7 @@ use mathlib.Core.List.{List}
 use lib.Dec.{eqb, ltb}
 use lib.ListN.{length, getD}
 use lib.Bits.{bitXor}
-use Rattle.parts.specs.Names.{PROGRAM, WRONG-CELLS, NO-ADDRESS, WIDE-DATA, BAD-STATE}
+use Rattle.parts.specs.Names.{PROGRAM, BIT-7, BIT-6, WRONG-CELLS, NO-ADDRESS, WIDE-DATA, BAD-STATE}
 use Rattle.parts.specs.Pick.{pick, _unless_, _else_, _orElse_}
 use Rattle.parts.specs.Width.{valueOf, blankOf, fitsIn}
 use Rattle.parts.specs.Table.{rowOf, foundOf}
@@ -89,13 +89,6 @@ afterTime r h e =
     chip (s .cells) (withCore (h .device) (s .core))
 
 -- ---- reads
--- bits 7 and 6 of a word
-abbrev pub BIT-7 : ℕ
-BIT-7 = 128
-
-abbrev pub BIT-6 : ℕ
-BIT-6 = 64
-
 -- bit 7 while busy: the complement of the data's for program, 0 for erase
 abbrev pub bit7 : Operation → ℕ
 bit7 o = pick (eqb (o .kind) PROGRAM) (1 - o .«data» / BIT-7 % 2) 0

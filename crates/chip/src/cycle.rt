@@ -10,6 +10,8 @@ use commands::Mode;
 use parts::Found;
 use parts::Row;
 use parts::names::BAD_STATE;
+use parts::names::BIT_6;
+use parts::names::BIT_7;
 use parts::names::NO_ADDRESS;
 use parts::names::PROGRAM;
 use parts::names::WIDE_DATA;
@@ -20,11 +22,6 @@ ghost use lib.ListN.{length};
 ghost use mathlib.Core.Bool.{true};
 ghost use Rattle.chip.specs.Cycle.{actedOf, actionRefusal, bit6, bit7, chip, cutOf, cycleOf, cycleRefusalOn, identity, inverted, outputsOf, readOf, settledOf, shownOf, status};
 ghost use Rattle.chip.specs.Needs.{InWords, RunsInside};
-
-// Bits 7 and 6 of a word.
-const BIT_7: u16 = 128;
-
-const BIT_6: u16 = 64;
 
 // What a cycle does: read an address, write an address with data, nothing, or a power cut with a scar.
 pub enum Action {

@@ -2,7 +2,7 @@
 use Prim.Native.Nat.{ℕ, _+_, _*_, _/_, _%_}
 use mathlib.Core.Bool.{Bool, true, false}
 use lib.Dec.{eqb, ltb, leb}
-use Rattle.parts.specs.Names.{PROGRAM, CHIP, BAD-STATE, GAVE-UP, DIFFERS}
+use Rattle.parts.specs.Names.{PROGRAM, CHIP, BIT-7, BAD-STATE, GAVE-UP, DIFFERS}
 use Rattle.parts.specs.Pick.{pick}
 use Rattle.parts.specs.Width.{valueOf, blankOf}
 use Rattle.parts.specs.Table.{rowOf}
@@ -33,7 +33,7 @@ abbrev pub dataOf : ℕ → ℕ → ℕ
 dataOf command x = pick (eqb command PROGRAM) x 0
 
 abbrev pub bitSeven : ℕ → ℕ
-bitSeven x = x / 128 % 2
+bitSeven x = x / BIT-7 % 2
 
 -- bit 7 that ends the polling: the data's, or 1 for an erase
 abbrev pub bitWanted : ℕ → ℕ → ℕ

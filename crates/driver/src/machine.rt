@@ -6,6 +6,7 @@ use chip::Action;
 use parts::Found;
 use parts::Row;
 use parts::names::BAD_STATE;
+use parts::names::BIT_7;
 use parts::names::CHIP;
 use parts::names::DIFFERS;
 use parts::names::GAVE_UP;
@@ -88,7 +89,7 @@ fn data_of(command: u32, data: u16) -> u16
 fn bit_seven(x: u16) -> u16
     ensures { λ r. ⌜ r ≡ bitSeven x ⌝ }
 {
-    x / 128 % 2
+    x / BIT_7 % 2
 }
 
 // The bit 7 that ends the polling.

@@ -3,6 +3,7 @@
 // ending and the polls, of a step after the end.
 use driver::Driver;
 use driver::Next;
+use parts::names::BIT_7;
 
 // A command as it is started, and the value that its confirming read must equal.
 struct Task {
@@ -16,7 +17,7 @@ struct Task {
 
 // The wrong bit 7, and nothing else.
 fn wrong_bit(wanted: u16) -> u16 {
-    (1 - wanted / 128 % 2) * 128
+    (1 - wanted / BIT_7 % 2) * BIT_7
 }
 
 // The right bit 7, in a word that differs in its lowest bit.

@@ -1,4 +1,4 @@
--- The numbers of document 01 by name: commands, stages of a write sequence, kinds of a last cycle, and the table of refusals.
+-- The numbers of document 01 by name: commands, stages of a write sequence, kinds of a last cycle, bits 7 and 6, and the table of refusals.
 -- Capitals as in the source, its `_` as `-`.
 use Prim.Native.Nat.{ℕ}
 
@@ -60,6 +60,15 @@ A-READ = 1
 -- a write
 abbrev pub A-WRITE : ℕ
 A-WRITE = 2
+
+-- ---- the bits of a word that tell how an operation stands
+-- bit 7
+abbrev pub BIT-7 : ℕ
+BIT-7 = 128
+
+-- bit 6
+abbrev pub BIT-6 : ℕ
+BIT-6 = 64
 
 -- ---- refusals
 -- part above 10

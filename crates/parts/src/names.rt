@@ -1,4 +1,4 @@
-// The numbers of document 01 by name: commands, stages of a write sequence, kinds of a last cycle, and the table of refusals.
+// The numbers of document 01 by name: commands, stages of a write sequence, kinds of a last cycle, bits 7 and 6, and the table of refusals.
 
 // ---- commands
 // program
@@ -33,6 +33,12 @@ pub const NO_CYCLE: u32 = 0;
 pub const A_READ: u32 = 1;
 // a write
 pub const A_WRITE: u32 = 2;
+
+// ---- the bits of a word that tell how an operation stands
+// bit 7
+pub const BIT_7: u16 = 128;
+// bit 6
+pub const BIT_6: u16 = 64;
 
 // ---- refusals
 // part above 10
