@@ -3,7 +3,7 @@ use Prim.Native.Nat.{ℕ, zero, suc, _<_}
 use mathlib.Core.Path.{_≡_, refl, sym, ap, _∙_}
 use mathlib.Core.Bool.{true, false}
 use native.Mathlib.Omega.{arith}
-use borrow.Author.Tests.{lt-ltb, ne-eqb, eqb-true}
+use borrow.Author.Tests.{lt-ltb, eqb-true}
 use lib.Dec.{eqb}
 use Rattle.parts.specs.declared.table.Row.{Row}
 use Rattle.parts.proofs.Every.{both, unless}
@@ -23,7 +23,7 @@ idle-is d i =
 
 -- ---- any positive time ends that a completion is 0 µs old
 pub some-time-ages : (k : Core) (e : ℕ) → 0 < e → agedBy k e ≡ withRecent k false
-some-time-ages k e some = ap (withRecent k) (simp (lt-ltb 0 e some, ne-eqb e 0 (λ z. omega arith)))
+some-time-ages k e some = ap (withRecent k) (simp (lt-ltb 0 e some))
 
 -- ---- an idle core
 module _ (k : Core) (i : coreIdle k ≡ true) where

@@ -1,9 +1,9 @@
 -- The outputs while a completion is 0 µs old: all the part's bits but 7 are inverted, and no other. Over any width from 8 on, once.
-use Prim.Native.Nat.{ℕ, zero, suc, _-_, _*_, _/_, _%_, _^_, _≤_, _<_}
+use Prim.Native.Nat.{ℕ, zero, suc, _+_, _-_, _*_, _/_, _%_, _^_, _≤_, _<_}
 use mathlib.Core.Path.{_≡_, refl, sym, ap, ap₂, _∙_}
 use mathlib.Core.Bool.{Bool, true, false}
 use native.Mathlib.Nat.{pow-suc, mod-lt, mod-eq-of-lt, div-div-eq-div-mul, mul-comm, not-suc-le-zero, le-of-suc-le-suc}
-use borrow.Author.Tests.{ltb-true, ltb-false, eqb-true, eqb-false}
+use borrow.Author.Tests.{lt-ltb, ltb-true, ltb-false, eqb-true, eqb-false}
 use native.Mathlib.Omega.{arith}
 use lib.Dec.{eqb, ltb}
 use lib.Pow.{pow-pos, pow-mono}
@@ -109,6 +109,13 @@ module _ (w : ℕ) (wide : 8 ≤ w) where
   -- Its bit 7 is the word's.
   pub keeps-seven : (v : ℕ) → inverted w v / 128 % 2 ≡ v / 128 % 2
   keeps-seven v = differs-but-seven v 7
+
+  -- Its bit 0 is the other one.
+  pub turns-zero : (v : ℕ) → bitOf 0 (inverted w v) + bitOf 0 v ≡ 1
+  turns-zero v =
+      let low : ltb 0 w ≡ true = lt-ltb 0 w (omega arith) in
+      let other : bitOf 0 (inverted w v) ≡ 1 - bitOf 0 v = rw low at (differs-but-seven v 0) in
+      omega (arith, other)
 
   -- Of a value of the width it is one, too.
   pub inverted-lt : (v : ℕ) → v < 2 ^ w → inverted w v < 2 ^ w

@@ -14,6 +14,7 @@ use Rattle.parts.specs.declared.table.Row.{Row}
 use Rattle.parts.proofs.Every.{apart, split}
 use Rattle.parts.proofs.Sound.{width-least}
 use Rattle.commands.specs.declared.effect.Effect.{Effect}
+use Rattle.commands.specs.declared.effect.Mode.the-variants.{ReadMode}
 use Rattle.commands.proofs.Effects.{effect-is}
 use Rattle.chip.specs.declared.device.Operation.{Operation}
 use Rattle.chip.specs.declared.device.Core.{Core}
@@ -22,15 +23,15 @@ use Rattle.chip.specs.declared.cycle.Action.{Action}
 use Rattle.chip.specs.declared.cycle.Action.the-variants.{Read, Write, Idle, Cut}
 use Rattle.chip.specs.declared.cycle.Cycle.{Cycle}
 use Rattle.chip.specs.declared.cycle.Shown.{Shown}
-use Rattle.chip.specs.Device.{withRecent, atRest, agedBy, busy, device, withCore, freshDevice, coreInRange, deviceInRange}
+use Rattle.chip.specs.Device.{withRecent, atRest, agedBy, busy, device, withCore, freshDevice, coreInRange, deviceInRange, coreIdle, idle}
 use Rattle.chip.specs.Operation.{completeOn}
 use Rattle.chip.specs.Sequence.{ignored, afterEffect, writtenOf}
 use Rattle.chip.specs.Cycle.{cycle, Chip, chip, Outcome, outcome, Settled, settledOf, afterTime, shownOf, inverted, outputsOf, readOf, cutOf, cycleRefusal, actedOf, acceptedOf, cycleOf}
 use Rattle.chip.specs.Trace.{after, effectStarts, actionStarts, startedBy, uncutAction}
-use Rattle.chip.specs.Recent.{DifferButSeven, recentOnce, none}
+use Rattle.chip.specs.Recent.{DifferButSeven, recentOnce, later, none}
 use Rattle.chip.proofs.Accepted.{Accepted, accepted, accepting, busy-valid, ranges}
-use Rattle.chip.proofs.Idle.{some-time-ages}
-use Rattle.chip.proofs.Cases.{accepted-cycle, read-at-rest, completes}
+use Rattle.chip.proofs.Idle.{idle-is, some-time-ages, idle-old}
+use Rattle.chip.proofs.Cases.{accepted-cycle, rests, read-at-rest, completes}
 use Rattle.chip.proofs.Outputs.{differ-so}
 use Rattle.chip.proofs.Sampled.{twice, sampled}
 use Rattle.chip.proofs.Ranges.{after-range, after-length}
@@ -184,3 +185,23 @@ pub cut-done : (part : ℕ) (cells : List ℕ) (d : Device) (e : ℕ) (wp : Bool
 unfolding acceptedOf cutOf
 cut-done part cells d e wp s z some l =
     accepted-cycle part cells d (cycle e wp (Cut s)) (accepted part (length cells) d (Cut s) z) ∙ rw (completes (rowOf part) cells (d .core) e some l)
+
+-- ---- The device some time later, where nothing runs, is the one that a cycle leaves in which any time passes and nothing is done; the cells are as they were.
+pub later-is : (part : ℕ) (h : Chip) (e : ℕ) (wp : Bool) → cycleRefusal part (length (h .cells)) (h .device) Idle ≡ 0 → busy (h .device .core) ≡ false → 0 < e
+    → after part h (cycle e wp Idle) ≡ chip (h .cells) (later (h .device))
+unfolding after acceptedOf
+later-is part h e wp z b some =
+    rw (
+      accepted-cycle part (h .cells) (h .device) (cycle e wp Idle) (accepted part (length (h .cells)) (h .device) Idle z),
+      rests (rowOf part) (h .cells) (h .device .core) e b,
+      some-time-ages (h .device .core) e some,
+    )
+
+-- An idle device is the same then;
+pub idle-later : (d : Device) → idle d ≡ true → later d ≡ d
+idle-later d i = ap (λ (n : Bool). withCore d (withRecent (d .core) n)) (sym (idle-old (d .core) (idle-is d i .1)))
+
+-- and one whose operation has just completed is idle.
+pub completed-later : (k : Core) → k .mode ≡ ReadMode → idle (later (device (atRest k true) 0)) ≡ true
+unfolding idle coreIdle
+completed-later k m = rw m

@@ -1,10 +1,12 @@
 -- Demand 3 is met. What is proved stands in specs/Demand3.antt.
-use mathlib.Core.Path.{_≡_, refl, _∙_}
+use mathlib.Core.Path.{_≡_, refl, ap, _∙_}
 use mathlib.Core.Bool.{Bool, true, false}
 use native.Mathlib.Omega.{arith}
 use lib.Dec.{ltb}
 use lib.ListN.{length}
 use Rattle.parts.specs.Pick.{pick}
+use Rattle.chip.specs.Device.{idle}
+use Rattle.chip.proofs.Recent.{idle-later}
 use Rattle.job.specs.Bill.{Loaded, loadOf, refusedBill}
 use Rattle.jobfile.specs.JobFile.{malformed}
 use Rattle.billing.specs.File.{billOfFile}
@@ -40,6 +42,7 @@ demand-3 =
       no-rival-is-quicker = λ c accepted d cs rival. let j = toLoad c in
           rw (c .promise .0, ← table-time (j .part) (j .cells) (j .first) (j .image) (j .wp) (j .p) accepted)
           (least (j .part) (j .cells) (j .first) (j .image) (j .wp) (j .p) accepted d cs rival);
+      idle-end-will-do = λ d i. ap idle (idle-later d i) ∙ i;
       job-is-a-rival = λ c accepted. let j = toLoad c in
           job-rivals (j .part) (j .cells) (j .first) (j .image) (j .wp) (j .p) accepted;
       load-first-plays = λ c accepted. let j = toLoadFirst c .job in

@@ -3,6 +3,7 @@
 -- and follow the formulas; and no list of bus cycles does it in less.
 use Prim.Native.Nat.{_+_, _*_, _/_, _≤_}
 use mathlib.Core.Path.{_≡_}
+use mathlib.Core.Bool.{true}
 use mathlib.Core.List.{List}
 use Rattle.parts.specs.Names.{PROGRAM, SECTOR}
 use lib.ListN.{length}
@@ -11,9 +12,10 @@ use Rattle.parts.specs.Table.{rowOf}
 use Rattle.parts.specs.Time.{timeOf}
 use Rattle.chip.specs.declared.device.Device.{Device}
 use Rattle.chip.specs.declared.cycle.Cycle.{Cycle}
-use Rattle.chip.specs.Device.{freshDevice}
+use Rattle.chip.specs.Device.{freshDevice, idle}
 use Rattle.chip.specs.Cycle.{chip}
 use Rattle.chip.specs.Trace.{startedIn}
+use Rattle.chip.specs.Recent.{later}
 use Rattle.job.specs.declared.bill.Bill.{Bill}
 use Rattle.job.specs.Bill.{Loaded, loadOf}
 use Rattle.invoice.specs.Started.{tableTime}
@@ -38,6 +40,8 @@ pub record Demand3 : Type 0 where
       → (d : Device) (cs : List Cycle) → Rival (j .part) (j .cells) (j .first) (j .image) d cs
       → c .back .erases * timeOf (rowOf (j .part)) SECTOR + c .back .programs * timeOf (rowOf (j .part)) PROGRAM
       ≤ tableTime (rowOf (j .part)) (startedIn (j .part) (chip (j .cells) d) cs)
+  -- A rival has to end on a device that is idle some time later: one that ends idle does.
+  pub idle-end-will-do : (d : Device) → idle d ≡ true → idle (later d) ≡ true
   -- There is such a rival: the job's own cycles, from a fresh device.
   pub job-is-a-rival : (c : LoadCall) → let j = toLoad c in refusedJob j ≡ 0
       → Rival (j .part) (j .cells) (j .first) (j .image) freshDevice
