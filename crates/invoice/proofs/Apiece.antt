@@ -1,14 +1,12 @@
 -- Cycles sent that are each what they are counted and told as: then a list of them is, and its first cycles.
 use Prim.Native.Nat.{ℕ, zero, suc, _+_, _≤_}
-use mathlib.Core.Path.{_≡_, refl, sym, ap}
+use mathlib.Core.Path.{_≡_, refl, sym, ap, ap₂}
 use mathlib.Core.Bool.{Bool, true, false}
 use mathlib.Core.List.{List, [], _∷_, _++_, map}
 use native.Mathlib.Nat.{zero-add}
 use native.Mathlib.Omega.{arith}
 use lib.ListN.{length, getD, take}
-use Rattle.parts.specs.Width.{valueOf}
-use Rattle.parts.specs.Table.{rowOf}
-use Rattle.parts.proofs.Every.{apart}
+use Rattle.parts.specs.Pick.{pick}
 use Rattle.chip.specs.declared.device.Operation.{Operation}
 use Rattle.chip.specs.declared.cycle.Action.{Action}
 use Rattle.chip.specs.declared.cycle.Action.the-variants.{Read, Write as Writes, Idle, Cut}
@@ -18,17 +16,17 @@ use Rattle.chip.specs.Cycle.{cycle, Chip, chip}
 use Rattle.chip.specs.Trace.{after, startedBy, startedIn}
 use Rattle.chip.proofs.Started.{read-starts, LastStarts}
 use Rattle.commands.specs.declared.write.Write.{Write}
-use Rattle.driver.specs.Talk.{writeCycles, shows}
-use Rattle.driver.specs.Reads.{Due, Scans, Polls, Confirms, dueAfter, ARead, readAs, placesIn}
+use Rattle.driver.specs.Talk.{writeCycles}
+use Rattle.driver.specs.Reads.{Due, Scans, Confirms, dueAfter, readAs, placesIn, counting, howMany}
 use Rattle.job.specs.declared.loader.Purpose.{Purpose}
-use Rattle.job.specs.declared.loader.Purpose.the-variants.{Scan, Lead, Begin, Poll, Confirm}
+use Rattle.job.specs.declared.loader.Purpose.the-variants.{Begin, Poll}
 use Rattle.job.specs.declared.run.Tally.{Tally}
 use Rattle.job.specs.Run.{Sent, sent, World, world, countedOf, noLast, lastOf, noneSent, sendOf, playOf}
 use Rattle.job.specs.Sent.{writesSent}
 use Rattle.job.specs.Formulas.{plus, noTally, tallyOf}
 use Rattle.job.proofs.Rest.{chipOf}
-use Rattle.invoice.specs.Started.{cyclesIn, takesValue, ShowsCell, ShowCells, toldLast, lastIn, lastShown, many}
-use Rattle.invoice.proofs.Placed.{purposed, placedAs}
+use Rattle.invoice.specs.Started.{cyclesIn, showsCell, showing, toldLast, lastIn, lastShown, many}
+use Rattle.invoice.proofs.Placed.{placedAs}
 
 -- ---- counts
 -- the erases and programs of t are the operations os, and no others are among these
@@ -57,49 +55,35 @@ counts-begun zero e o few k = rw k (record { erases = refl; programs = refl; blo
 counts-begun (suc zero) e o few k = rw k (record { erases = refl; programs = refl; blocks = refl; chips = refl })
 counts-begun (suc (suc c)) e o few k = absurd (omega arith)
 
--- ---- what is sent to be taken for a cell's value, a scan or a confirming read, shows it
-abbrev forValue : Purpose → Bool
-forValue Scan = true
-forValue Lead = false
-forValue (Begin k) = false
-forValue Poll = false
-forValue Confirm = true
+-- ---- a scan or a confirming read shows the value of its cell
+-- of one cycle, counted as u where it shows that: it is counted so all the same
+abbrev Shows : ℕ → Chip → Sent → Due → Type 0
+Shows part h s u = pick (showsCell part h (s .cycle) (s .cycle .action)) (counting u (placedAs s)) 0 ≡ counting u (placedAs s)
 
-abbrev pub ShowsValue : ℕ → Chip → Sent → Action → Type 0
-ShowsValue part h s (Read a) = forValue (s .purpose) ≡ true → shows part h (s .cycle) ≡ valueOf (rowOf part .width) (getD (after part h (s .cycle) .cells) a 0)
-ShowsValue part h s (Writes a x) = Unit {0}
-ShowsValue part h s Idle = Unit {0}
-ShowsValue part h s (Cut x) = Unit {0}
+abbrev pub ShowsBoth : ℕ → Chip → Sent → Type 0
+ShowsBoth part h s = Shows part h s Scans × Shows part h s Confirms
 
--- a poll is not taken for one
-pub poll-shows : (part : ℕ) (h : Chip) (c : Cycle) (a : ℕ) → ShowsValue part h (sent Poll c) (Read a)
-poll-shows part h c a q = apart q
+-- it does,
+pub cell-shows : (part : ℕ) (h : Chip) (s : Sent) → showsCell part h (s .cycle) (s .cycle .action) ≡ true → ShowsBoth part h s
+cell-shows part h s e = (rw e, rw e)
 
--- so where its place is what its purpose says, it does by its place
-for-value : (u : Due) (p : Purpose) → ARead u ≡ purposed p → takesValue u ≡ true → forValue p ≡ true
-for-value u Scan q v = refl
-for-value u Lead q v = let z : _≡_ {A = ℕ} 0 1 = cc in absurd (omega arith)
-for-value u (Begin k) q v = let z : _≡_ {A = ℕ} 0 1 = cc in absurd (omega arith)
-for-value Scans Poll q v = let z : _≡_ {A = ℕ} 0 1 = cc in absurd (omega arith)
-for-value Polls Poll q v = v
-for-value Confirms Poll q v = let z : _≡_ {A = ℕ} 0 1 = cc in absurd (omega arith)
-for-value u Confirm q v = refl
+-- or is a poll
+pub poll-shows : (part : ℕ) (h : Chip) (c : Cycle) → ShowsBoth part h (sent Poll c)
+poll-shows part h c = (neither (showsCell part h c (c .action)), neither (showsCell part h c (c .action)))
+  where
+    neither : (b : Bool) → _≡_ {A = ℕ} (pick b 0 0) 0
+    neither true = refl
+    neither false = refl
 
-place-shows : (part : ℕ) (u : Due) (h : Chip) (s : Sent) (a : Action) → readAs u a ≡ placedAs s → ShowsValue part h s a → ShowsCell part u h (s .cycle) a
-place-shows part u h s (Read a) q t = λ v. t (for-value u (s .purpose) q v)
-place-shows part u h s (Writes a x) q t = tt
-place-shows part u h s Idle q t = tt
-place-shows part u h s (Cut x) q t = tt
-
--- ---- one cycle, on the chip h: it counts the operations that it starts, as the last one it is told, and what is taken for a cell's value is one
+-- ---- one cycle, on the chip h: it counts the operations that it starts, as the last one it is told, and a scan or a confirming read shows the value of its cell
 pub record Piece (part : ℕ) (h : Chip) (s : Sent) : Type 0 where
   pub counts : Counts (countedOf noTally (s .purpose) (s .cycle .elapsed)) (startedBy part h (s .cycle))
   pub told : toldLast (lastOf (s .cycle .elapsed) (s .cycle .wp) (s .cycle .action)) ≡ s .cycle ∷ []
-  pub shown : ShowsValue part h s (s .cycle .action)
+  pub shown : ShowsBoth part h s
 
 -- a read, counted neither as an erase nor as a program
 pub read-piece : (part : ℕ) (h : Chip) (p : Purpose) (e : ℕ) (wp : Bool) (a : ℕ) → countedOf noTally p e .erases ≡ 0 → countedOf noTally p e .programs ≡ 0
-    → ShowsValue part h (sent p (cycle e wp (Read a))) (Read a) → Piece part h (sent p (cycle e wp (Read a)))
+    → ShowsBoth part h (sent p (cycle e wp (Read a))) → Piece part h (sent p (cycle e wp (Read a)))
 read-piece part h p e wp a ne np t = record { counts = rw (read-starts part h e wp a) (record { erases = ne; programs = np; blocks = refl; chips = refl }); told = refl; shown = t }
 
 -- ---- a list, from the world w on
@@ -122,9 +106,9 @@ module _ (part : ℕ) where
       → (w : World) → LastStarts part (chipOf w) (writeCycles wp ws) (o ∷ []) → Apiece part w (writesSent wp command ws)
   unfolding sendOf after
   apiece-writes wp command [] o few k w l = tt
-  apiece-writes wp command (x ∷ []) o few k w l = (record { counts = rw l (counts-begun command 0 o few k); told = refl; shown = tt }, tt)
+  apiece-writes wp command (x ∷ []) o few k w l = (record { counts = rw l (counts-begun command 0 o few k); told = refl; shown = (refl, refl) }, tt)
   apiece-writes wp command (x ∷ (y ∷ ws)) o few k w l =
-      (record { counts = rw (l .0) (record { erases = refl; programs = refl; blocks = refl; chips = refl }); told = refl; shown = tt }, apiece-writes wp command (y ∷ ws) o few k _ (l .1))
+      (record { counts = rw (l .0) (record { erases = refl; programs = refl; blocks = refl; chips = refl }); told = refl; shown = (refl, refl) }, apiece-writes wp command (y ∷ ws) o few k _ (l .1))
 
   -- the counts are of the operations that the list starts
   pub apiece-counts : (w : World) (L : List Sent) → Apiece part w L → Counts (tallyOf L) (startedIn part (chipOf w) (cyclesIn L))
@@ -132,15 +116,17 @@ module _ (part : ℕ) where
   apiece-counts w [] a = record { erases = refl; programs = refl; blocks = refl; chips = refl }
   apiece-counts w (s ∷ L) a = counts-plus _ _ _ _ (a .0 .counts) (apiece-counts (sendOf part w (s .purpose) (s .cycle)) L (a .1))
 
-  -- what is taken for a cell's value by its place is one
-  pub apiece-shows : (u : Due) (w : World) (L : List Sent) → placesIn part u (chipOf w) (cyclesIn L) ≡ map placedAs L → Apiece part w L → ShowCells part u (chipOf w) (cyclesIn L)
+  -- of the scans and of the confirming reads, told by their places, all show the value of their cell
+  pub apiece-shows : (v : Due) (w : World) (L : List Sent) → placesIn part v (chipOf w) (cyclesIn L) ≡ map placedAs L → Apiece part w L
+      → (showing part Scans v (chipOf w) (cyclesIn L) ≡ howMany Scans (map placedAs L)) × (showing part Confirms v (chipOf w) (cyclesIn L) ≡ howMany Confirms (map placedAs L))
   unfolding sendOf after
-  apiece-shows u w [] e a = tt
-  apiece-shows u w (s ∷ L) e a =
-      let next = dueAfter part u (chipOf w) (s .cycle) (s .cycle .action) in
-      let first : readAs u (s .cycle .action) ≡ placedAs s = cc in
+  apiece-shows v w [] e a = (refl, refl)
+  apiece-shows v w (s ∷ L) e a =
+      let next = dueAfter part v (chipOf w) (s .cycle) (s .cycle .action) in
+      let first : readAs v (s .cycle .action) ≡ placedAs s = cc in
       let rest : placesIn part next (after part (chipOf w) (s .cycle)) (cyclesIn L) ≡ map placedAs L = cc in
-      (place-shows part u (chipOf w) s (s .cycle .action) first (a .0 .shown), apiece-shows next (sendOf part w (s .purpose) (s .cycle)) L rest (a .1))
+      let q = apiece-shows next (sendOf part w (s .purpose) (s .cycle)) L rest (a .1) in
+      (rw first (ap₂ _+_ (a .0 .shown .0) (q .0)), rw first (ap₂ _+_ (a .0 .shown .1) (q .1)))
 
   -- the last cycle is the list's, and the reply what that shows
   last-is : (w : World) (s : Sent) (L : List Sent) → Apiece part w (s ∷ L) → toldLast (playOf part w (s ∷ L) .held .last) ≡ lastIn (cyclesIn (s ∷ L))

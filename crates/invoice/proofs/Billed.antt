@@ -72,6 +72,7 @@ module _ (part : ℕ) (cells : List ℕ) (first : ℕ) (image : List ℕ) (wp : 
       let e = places in
       let q = cells-left j image (ok .right) cells (ok .whole) in
       let n = apiece-counts part (world cells noneSent) (sentOf j image cells) each in
+      let v = apiece-shows part Scans (world cells noneSent) (sentOf j image cells) e each in
       rw (eq-eqb (jobRefusal part (length cells) first image wp p) 0 accepted)
       (record {
         holds = rw q (image-left j image (ok .right) cells (ok .whole));
@@ -95,7 +96,8 @@ module _ (part : ℕ) (cells : List ℕ) (first : ℕ) (image : List ℕ) (wp : 
         scanned = rw (t, e) (c .scans);
         confirmed = rw (t, e) (c .confirms);
         timed = rw t (c .time);
-        words = apiece-shows part Scans (world cells noneSent) (sentOf j image cells) e each;
+        scans-show = rw t (omega (arith, c .scans, v .0));
+        confirms-show = rw t (omega (arith, c .confirms, v .1));
       })
 
   -- a second call: the first k cycles

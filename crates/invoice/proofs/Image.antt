@@ -5,6 +5,7 @@ use mathlib.Core.Bool.{Bool, true, false}
 use mathlib.Core.List.{List, [], _∷_, _++_, map}
 use native.Mathlib.Nat.{le-refl, add-mod-right, zero-mul, suc-mul, div-add-mod'}
 use native.Mathlib.Omega.{arith}
+use borrow.Author.Tests.{eq-eqb}
 use lib.Dec.{eqb}
 use lib.ListN.{length, getD, take, drop, replicate, length-set, length-drop}
 use lib.Seq.{length-take-le, getD-take, getD-drop, getD-set-other}
@@ -43,8 +44,7 @@ use Rattle.values.proofs.Clears.{cleared}
 use Rattle.values.proofs.Places.{fit-at}
 use Rattle.job.proofs.Left.{program-leaves, erase-length, erase-drop, erase-at}
 use Rattle.job.proofs.Sectors.{Ready, Read-on, reads-on}
-use Rattle.invoice.specs.Started.{cyclesIn}
-use Rattle.invoice.proofs.Apiece.{ShowsValue}
+use Rattle.invoice.specs.Started.{cyclesIn, showsCell}
 use Rattle.invoice.proofs.Listed.{programming, filling, looking, carrying, sectoring, sectoringAll, operationsOf}
 use Rattle.invoice.proofs.Starts.{world-plays, play-append, operated-cycles, Starts, starts-none, starts-append, starts-read, starts-operated}
 
@@ -197,9 +197,9 @@ module _ (j : Job) (image : List ℕ) (R : AcceptedJob j image) where
   Clear o x = bitAnd (value o) x ≡ x
 
   -- a scan shows the value of its cell
-  scan-true : (a : ℕ) (w : World) → Read-on j image R w a (after-all w (scanRead j a ∷ [])) → ShowsValue (j .part) (chipOf w) (scanRead j a) (Read a)
+  scan-true : (a : ℕ) (w : World) → Read-on j image R w a (after-all w (scanRead j a ∷ [])) → showsCell (j .part) (chipOf w) (scanRead j a .cycle) (Read a) ≡ true
   unfolding sendOf after
-  scan-true a w o q = o .reply ∙ (ap (λ (r : Row). valueOf (r .width) (at w a)) (R .row) ∙ sym (ap (λ (l : List ℕ). value (getD l a 0)) (o .cells)))
+  scan-true a w o = eq-eqb _ _ (o .reply ∙ (ap (λ (r : Row). valueOf (r .width) (at w a)) (R .row) ∙ sym (ap (λ (l : List ℕ). value (getD l a 0)) (o .cells))))
 
   -- a read changes nothing
   read-put : (a : ℕ) (w : World) → a < r .cells → Ready j image R w → Put w a (scanRead j a ∷ []) []

@@ -1,6 +1,7 @@
 pub mod Listed
 pub mod Placed
 pub mod Apiece
+pub mod Inverted
 pub mod Starts
 pub mod Bits
 pub mod Image

@@ -4,7 +4,7 @@ use mathlib.Core.Path.{_≡_, refl, sym, ap, ap₂, _∙_}
 use mathlib.Core.Bool.{Bool, true, false}
 use mathlib.Core.List.{List, [], _∷_, _++_, map, append-assoc, map-append}
 use native.Mathlib.Omega.{arith}
-use borrow.Author.Tests.{ne-eqb}
+use borrow.Author.Tests.{eq-eqb, ne-eqb}
 use lib.ListN.{length, getD, replicate}
 use Rattle.parts.specs.Width.{valueOf}
 use Rattle.parts.specs.Table.{rowOf}
@@ -30,9 +30,9 @@ use Rattle.job.specs.declared.loader.Purpose.the-variants.{Scan, Poll, Confirm}
 use Rattle.job.specs.Run.{Sent, sent, World, sendOf, playOf}
 use Rattle.job.specs.Sent.{writesSent, operated, scanRead}
 use Rattle.job.proofs.Rest.{chipOf}
-use Rattle.invoice.specs.Started.{cyclesIn}
+use Rattle.invoice.specs.Started.{cyclesIn, showsCell}
 use Rattle.invoice.proofs.Placed.{placedAs}
-use Rattle.invoice.proofs.Apiece.{ShowsValue, poll-shows, Apiece, read-piece, apiece-append, apiece-writes}
+use Rattle.invoice.proofs.Apiece.{cell-shows, poll-shows, Apiece, read-piece, apiece-append, apiece-writes}
 
 -- ---- no cut
 writes-uncut : (wp : Bool) (ws : List Write) → uncut (writeCycles wp ws) ≡ true
@@ -112,9 +112,9 @@ module _ (part : ℕ) (w : World) where
 
   module _ (j : Job) (a : ℕ) where
     -- a scan that shows the value of its cell
-    pub starts-read : ShowsValue part (chipOf w) (scanRead j a) (Read a) → Starts part w (scanRead j a ∷ []) []
+    pub starts-read : showsCell part (chipOf w) (scanRead j a .cycle) (Read a) ≡ true → Starts part w (scanRead j a ∷ []) []
     unfolding sendOf after
-    starts-read t = record { begun = rw (read-starts part (chipOf w) 0 (j .wp) a); apiece = (read-piece part (chipOf w) Scan 0 (j .wp) a refl refl t, tt); whole = refl; placed = λ cs. refl }
+    starts-read t = record { begun = rw (read-starts part (chipOf w) 0 (j .wp) a); apiece = (read-piece part (chipOf w) Scan 0 (j .wp) a refl refl (cell-shows part (chipOf w) (scanRead j a) t), tt); whole = refl; placed = λ cs. refl }
 
 -- an operation's cycles, from an idle chip, where it is accepted and not ignored
 module _ (j : Job) (command a x : ℕ) (few : command ≤ 1) (row : j .row ≡ rowOf (j .part)) (w : World)
@@ -204,17 +204,17 @@ module _ (j : Job) (command a x : ℕ) (few : command ≤ 1) (row : j .row ≡ r
       = rw row (play-append (j .part) w ws (replicate n poll ++ (confirm ∷ [])) ∙ play-append (j .part) written (replicate n poll) (confirm ∷ [])) in
       sym (ap chipOf e) ∙ left
 
-  confirm-true : ShowsValue (j .part) (chipOf met) confirm (Read a)
-  confirm-true q =
+  confirm-true : showsCell (j .part) (chipOf met) (confirm .cycle) (Read a) ≡ true
+  confirm-true =
       let r = rowOf (j .part) in
       let plain : addressOf command a ≡ a = rw (ne-eqb command 3 (λ e. omega arith)) in
       let s = rw plain at (confirm-shows (j .part) command a x (j .p) (j .wp) (w .cells) (w .held .device) accepted whole rests heeded) in
-      ap (λ (h : Chip). shows (j .part) h (confirm .cycle)) met-is ∙ (s ∙ sym (ap (λ (h : Chip). valueOf (r .width) (getD (h .cells) a 0)) met-leads))
+      eq-eqb _ _ (ap (λ (h : Chip). shows (j .part) h (confirm .cycle)) met-is ∙ (s ∙ sym (ap (λ (h : Chip). valueOf (r .width) (getD (h .cells) a 0)) met-leads)))
 
   -- each of them is what it is counted and told as
-  polls-apiece : (m : ℕ) (v : World) → ShowsValue (j .part) (chipOf (playOf (j .part) v (replicate m poll))) confirm (Read a) → Apiece (j .part) v (replicate m poll ++ (confirm ∷ []))
-  polls-apiece zero v t = (read-piece (j .part) (chipOf v) Confirm confirmAfter (j .wp) a refl refl t, tt)
-  polls-apiece (suc m) v t = (read-piece (j .part) (chipOf v) Poll (j .p) (j .wp) a refl refl (poll-shows (j .part) (chipOf v) (poll .cycle) a), polls-apiece m _ t)
+  polls-apiece : (m : ℕ) (v : World) → showsCell (j .part) (chipOf (playOf (j .part) v (replicate m poll))) (confirm .cycle) (Read a) ≡ true → Apiece (j .part) v (replicate m poll ++ (confirm ∷ []))
+  polls-apiece zero v t = (read-piece (j .part) (chipOf v) Confirm confirmAfter (j .wp) a refl refl (cell-shows (j .part) (chipOf v) confirm t), tt)
+  polls-apiece (suc m) v t = (read-piece (j .part) (chipOf v) Poll (j .p) (j .wp) a refl refl (poll-shows (j .part) (chipOf v) (poll .cycle)), polls-apiece m _ t)
 
   operated-apiece : Apiece (j .part) w (operated j command a x)
   unfolding operated

@@ -19,7 +19,7 @@ use Rattle.driver.specs.Reads.{Scans, Polls, Confirms, Place, placesIn, howMany
 use Rattle.values.specs.Total.{sumOf}
 use Rattle.job.specs.Sent.{sentOf}
 use Rattle.job.specs.Bill.{jobFrom, playedAll, Loaded, Reported}
-use Rattle.invoice.specs.Started.{cyclesIn, timeIn, ShowCells, lastIn, lastShown, toldLast, many}
+use Rattle.invoice.specs.Started.{cyclesIn, timeIn, showing, lastIn, lastShown, toldLast, many}
 
 -- the job's bus cycles
 abbrev pub sentCycles : ℕ → List ℕ → ℕ → List ℕ → Bool → ℕ → List Cycle
@@ -60,8 +60,9 @@ pub record Invoice (part : ℕ) (cells : List ℕ) (first : ℕ) (image : List �
   pub scanned : l .bill .scans ≡ howMany Scans (placesSent part cells first image wp p)
   pub confirmed : l .bill .confirms ≡ howMany Confirms (placesSent part cells first image wp p)
   pub timed : l .bill .spent ≡ timeIn (sentCycles part cells first image wp p)
-  -- each scan and each confirming read shows the value of its cell: no inverted word is taken for one
-  pub words : ShowCells part Scans (chip cells freshDevice) (sentCycles part cells first image wp p)
+  -- of the scans and of the confirming reads as many show the value of their cell, so all do: no inverted word is taken for one
+  pub scans-show : l .bill .scans ≡ showing part Scans Scans (chip cells freshDevice) (sentCycles part cells first image wp p)
+  pub confirms-show : l .bill .confirms ≡ showing part Confirms Scans (chip cells freshDevice) (sentCycles part cells first image wp p)
   -- polls = sum of N over operations; spent = polls times p, and a µs for each confirming read; confirms = erases + programs
   pub polls : l .bill .polls ≡ l .bill .erases * pollsOf (rowOf part) SECTOR p + l .bill .programs * pollsOf (rowOf part) PROGRAM p
   pub spent : l .bill .spent ≡ l .bill .polls * p + l .bill .confirms

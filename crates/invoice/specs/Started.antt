@@ -1,8 +1,7 @@
--- Of sent cycles: their µs added up, what the reads show that are taken for a cell's value, the last one and what it shows; and of the operations that they
--- start, how many are of a kind, and their table times added up.
+-- Of sent cycles: their µs added up, how many of their reads show the value of a cell, the last one and what it shows; and of the operations that they start,
+-- how many are of a kind, and their table times added up.
 use Prim.Native.Nat.{ℕ, _+_}
-use mathlib.Core.Path.{_≡_}
-use mathlib.Core.Bool.{Bool, true, false}
+use mathlib.Core.Bool.{Bool, false}
 use mathlib.Core.List.{List, [], _∷_, map}
 use lib.Dec.{eqb}
 use lib.ListN.{getD}
@@ -19,7 +18,7 @@ use Rattle.chip.specs.declared.cycle.Cycle.{Cycle}
 use Rattle.chip.specs.Cycle.{cycle, Chip}
 use Rattle.chip.specs.Trace.{after}
 use Rattle.driver.specs.Talk.{shows}
-use Rattle.driver.specs.Reads.{Due, Scans, Polls, Confirms, dueAfter}
+use Rattle.driver.specs.Reads.{Due, dueAfter, readAs, counting}
 use Rattle.job.specs.declared.run.Last.{Last}
 use Rattle.job.specs.Run.{Sent}
 
@@ -32,23 +31,19 @@ abbrev pub timeIn : List Cycle → ℕ
 timeIn [] = 0
 timeIn (c ∷ cs) = c .elapsed + timeIn cs
 
--- ---- reads that are taken for a cell's value, told by their places: scans and confirming reads
-abbrev pub takesValue : Due → Bool
-takesValue Scans = true
-takesValue Polls = false
-takesValue Confirms = true
+-- ---- what reads show on the chip h
+-- the value of its cell, as the cell is once the read's time has passed
+abbrev pub showsCell : ℕ → Chip → Cycle → Action → Bool
+showsCell part h c (Read a) = eqb (shows part h c) (valueOf (rowOf part .width) (getD (after part h c .cells) a 0))
+showsCell part h c (Write a x) = false
+showsCell part h c Idle = false
+showsCell part h c (Cut s) = false
 
--- what such a read shows on the chip h is the value of its cell, as the cell is once the read's time has passed
-abbrev pub ShowsCell : ℕ → Due → Chip → Cycle → Action → Type 0
-ShowsCell part u h c (Read a) = takesValue u ≡ true → shows part h c ≡ valueOf (rowOf part .width) (getD (after part h c .cells) a 0)
-ShowsCell part u h c (Write a x) = Unit {0}
-ShowsCell part u h c Idle = Unit {0}
-ShowsCell part u h c (Cut s) = Unit {0}
-
--- each of a list, from h on, where u is due
-abbrev pub ShowCells : ℕ → Due → Chip → List Cycle → Type 0
-ShowCells part u h [] = Unit {0}
-ShowCells part u h (c ∷ cs) = ShowsCell part u h c (c .action) × ShowCells part (dueAfter part u h c (c .action)) (after part h c) cs
+-- how many of a list, from h on, where v is due, are u by their places and show it
+abbrev pub showing : ℕ → Due → Due → Chip → List Cycle → ℕ
+showing part u v h [] = 0
+showing part u v h (c ∷ cs) =
+    pick (showsCell part h c (c .action)) (counting u (readAs v (c .action))) 0 + showing part u (dueAfter part v h c (c .action)) (after part h c) cs
 
 -- ---- the last one, if any
 abbrev pub lastIn : List Cycle → List Cycle
