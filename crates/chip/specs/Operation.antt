@@ -1,5 +1,5 @@
 -- What an operation leaves on the cells, finished or cut short.
-use Prim.Native.Nat.{ℕ, _+_}
+use Prim.Native.Nat.{ℕ}
 use mathlib.Core.List.{List, _++_, map}
 use lib.Dec.{eqb}
 use lib.ListN.{take, drop}

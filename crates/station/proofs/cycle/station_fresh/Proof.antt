@@ -1,6 +1,5 @@
 -- `station::cycle::station_fresh` meets its contract.
 use mathlib.Core.Path.{refl}
-use borrow.Author.Needs.{needs}
 use Rattle.station.proofs.cycle.station_fresh.Statement.{statement}
 use Rattle.station.proofs.cycle.station_fresh.Tie as tie
 
