@@ -17,11 +17,12 @@ pub struct Operation {
     pub toggle: bool,
 }
 
-// All of a device but its write sequence: time, reads and cuts use nothing else. A recent completion is one 0 µs old.
+// All of a device but its write sequence: time, reads and cuts use nothing else. A recent completion is one 0 µs old; that
+// stands beside the mode, small as this is.
 pub struct Core {
     pub mode: Mode,
-    pub running: Operation,
     pub recent: bool,
+    pub running: Operation,
 }
 
 // The stage is one of the seven of a write sequence (parts::names).
