@@ -17,8 +17,8 @@ pub struct Operation {
     pub toggle: bool,
 }
 
-// All of a device but its write sequence: time, reads and cuts use nothing else. A recent completion is one 0 µs old; that
-// stands beside the mode, small as this is.
+// All of a device but its write sequence: time, reads and cuts use nothing else. A recent completion is one 0 µs old; it
+// stands beside the mode, since behind what runs it made a job slower (docs/DECISIONS.md, W5).
 pub struct Core {
     pub mode: Mode,
     pub recent: bool,

@@ -29,8 +29,8 @@ withBill b l = record { cells = l .cells; bill = b }
 
 pub record Demand3 : Type 0 where
   -- The range holds the image and no other cell has changed; the bill's erases and programs are the operations that the
-  -- cycles sent start; polls, spent, scans, confirms, saved and sum follow the formulas; the answer is 0. The lines of
-  -- `Invoice` say each of these.
+  -- cycles sent start; polls, spent, scans, confirms, saved and sum follow the formulas; every scan and every confirming read
+  -- shows the value of its cell (document 02, Wish 1); the answer is 0. The lines of `Invoice` say each of these.
   pub load-bills : (c : LoadCall) → let j = toLoad c in refusedJob j ≡ 0
       → Invoice (j .part) (j .cells) (j .first) (j .image) (j .wp) (j .p) (loadLeft c)
   -- No rival, that is no list of bus cycles from the same cells and any idle device, at any WP# levels and times, without
