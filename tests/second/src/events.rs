@@ -1,9 +1,11 @@
 //! Counts what happens in the recorded cases, to show that they reach the
 //! interesting places.
 
+mod suspends;
+
 use std::collections::BTreeMap;
 
-use crate::cycle::{in_range, Device, Mode};
+use crate::cycle::{held_back, in_range, Device, Mode, Operation};
 use crate::driver::{self, Driver};
 use crate::part::{Kind, Part};
 use crate::station::{op, Station};
@@ -117,6 +119,89 @@ const NAMES: &[&str] = &[
     "cycle: refusal 5 by a completion 0 µs old only",
     "cycle: refusal 5 by recent above 1, something running",
     "cycle: refusal 5 by recent above 1, nothing running",
+    "cycle: refusal 5 by turned above 1, something running",
+    "cycle: refusal 5 by turned above 1, nothing running",
+    "cycle: refusal 5 by an erase suspended on parts 0 to 6 only",
+    "cycle: refusal 5 by the suspended kind only",
+    "cycle: refusal 5 by the suspended time left only",
+    "cycle: refusal 5 by the suspended address only",
+    "cycle: refusal 5 by an erase beside the suspended one only",
+    "cycle: refusal 5 by a program in the suspended range only",
+    "cycle: sector suspended",
+    "cycle: block suspended",
+    "cycle: suspended with its whole time left",
+    "cycle: suspended with 1 µs left",
+    "cycle: suspended by B0H with a high byte",
+    "cycle: suspended, WP# low",
+    "cycle: suspended, bit 2 had turned",
+    "cycle: suspended over stray fields",
+    "cycle: B0H at the time left of an erase or later",
+    "cycle: B0H while a chip erase runs, parts 7 to 10",
+    "cycle: B0H while a program runs, parts 7 to 10",
+    "cycle: B0H while a program runs, an erase suspended",
+    "cycle: B0H while an erase runs, parts 0 to 6",
+    "cycle: B0H at rest, parts 0 to 6",
+    "cycle: B0H at rest, nothing suspended",
+    "cycle: B0H at rest, an erase suspended",
+    "cycle: B0H with a sequence begun, an erase suspended",
+    "cycle: F0H at rest, an erase suspended",
+    "cycle: sector resumed",
+    "cycle: block resumed",
+    "cycle: resumed by 30H with a high byte",
+    "cycle: resumed after some time",
+    "cycle: resumed in identification",
+    "cycle: resumed, WP# low",
+    "cycle: resumed, bit 2 had turned",
+    "cycle: resumed as a program completes",
+    "cycle: resumed, completion 0 µs old",
+    "cycle: 30H while a program runs, an erase suspended",
+    "cycle: 30H at rest, parts 0 to 6",
+    "cycle: 30H at rest, nothing suspended",
+    "cycle: 30H at stage 1, an erase suspended",
+    "cycle: 30H at stage 2, an erase suspended",
+    "cycle: 30H at stage 3, an erase suspended",
+    "cycle: 30H at stage 4, an erase suspended",
+    "cycle: 30H at stage 5, an erase suspended",
+    "cycle: 30H at stage 6, an erase suspended",
+    "cycle: read of the suspended range",
+    "cycle: read of the suspended range, bit 2 shows 0",
+    "cycle: read of the suspended range, its first cell",
+    "cycle: read of the suspended range, its last cell",
+    "cycle: read of the suspended range, inside a sequence",
+    "cycle: read of the suspended range, completion 0 µs old",
+    "cycle: read of the suspended range, completion 0 µs old, bit 2 would show 0",
+    "cycle: read outside the suspended range",
+    "cycle: read just outside the suspended range",
+    "cycle: read of the suspended range in identification",
+    "cycle: read busy in the suspended range, a program running",
+    "cycle: read busy in an erase's range, parts 7 to 10",
+    "cycle: read busy in an erase's range, parts 7 to 10, bit 2 shows 0",
+    "cycle: read busy in an erase's range, parts 7 to 10, bits 6 and 2 differ",
+    "cycle: read busy outside an erase's range, parts 7 to 10",
+    "cycle: read busy of a chip erase, parts 7 to 10",
+    "cycle: read busy of an erase, parts 0 to 6",
+    "cycle: erase completed, bit 2 had turned",
+    "cycle: program started, an erase suspended",
+    "cycle: program started, an erase suspended, bit 2 had turned",
+    "cycle: program started just outside the suspended range",
+    "cycle: program ignored by protection, an erase suspended",
+    "cycle: program into the suspended range ignored",
+    "cycle: program at an edge of the suspended range ignored",
+    "cycle: sector ignored, an erase suspended",
+    "cycle: block ignored, an erase suspended",
+    "cycle: chip ignored, an erase suspended",
+    "cycle: program completed, an erase suspended",
+    "cycle: program completed just then, an erase suspended",
+    "cycle: identification entered, an erase suspended",
+    "cycle: idle for some time, an erase suspended",
+    "cycle: cut, an erase suspended",
+    "cycle: cut, an erase suspended, a program running",
+    "cycle: cut, an erase suspended, a program completed",
+    "cycle: cut, an erase suspended, in identification",
+    "cycle: cut, an erase suspended, inside a sequence",
+    "cycle: refused, an erase suspended",
+    "cycle: stray suspended fields passed through",
+    "cycle: stray suspended fields cut",
     "figure: answer 0",
     "figure: refusal 1",
     "figure: refusal 15",
@@ -162,6 +247,7 @@ const NAMES: &[&str] = &[
     "run: stopped by a refused cycle",
     "run: stopped as its operation completes",
     "run: taken up, completion 0 µs old",
+    "run: over with an erase suspended",
     "job: accepted",
     "job: count 0",
     "job: sector erased",
@@ -283,10 +369,13 @@ impl Before {
 /// The part and kind of the operation that runs in a valid state.
 fn running(number: u32, device: &Device) -> Option<(&'static Part, Kind)> {
     let part = Part::get(number)?;
-    if device.left == 0 || !in_range(part, device) {
-        return None;
-    }
-    Some((part, Kind::from_number(device.kind)?))
+    let kind = device.running.known()?;
+    in_range(part, device).then_some((part, kind))
+}
+
+/// Do the fields of no operation hold something?
+fn is_stray(operation: &Operation) -> bool {
+    operation.left == 0 && *operation != Operation::default()
 }
 
 /// Does the running operation's range hold a cell above 255, on an eight-bit
@@ -294,13 +383,74 @@ fn running(number: u32, device: &Device) -> Option<(&'static Part, Kind)> {
 fn high_cells(station: &Station) -> bool {
     match running(station.part, &station.device) {
         Some((part, kind)) if part.width == 8 => {
-            let range = part.range(kind, station.device.address);
+            let range = part.range(kind, station.device.running.address);
             station.cells[range.start as usize..range.end as usize]
                 .iter()
                 .any(|cell| *cell > 255)
         }
         _ => false,
     }
+}
+
+/// A ground of refusal 5: whether it holds, and the event of it alone.
+type Ground = (bool, &'static str);
+
+/// The grounds of refusal 5 with nothing running.
+fn resting_grounds(device: &Device) -> Vec<Ground> {
+    vec![
+        (
+            device.stage > 6,
+            "cycle: refusal 5 by stage above 6, nothing running",
+        ),
+        (
+            device.recent > 1,
+            "cycle: refusal 5 by recent above 1, nothing running",
+        ),
+        (
+            device.turned > 1,
+            "cycle: refusal 5 by turned above 1, nothing running",
+        ),
+    ]
+}
+
+/// The grounds of refusal 5 with something running.
+fn running_grounds(part: &Part, device: &Device) -> Vec<Ground> {
+    let running = &device.running;
+    let kind = Kind::from_number(running.kind);
+    let time = kind.map(|kind| part.time(kind));
+    vec![
+        (kind.is_none(), "cycle: refusal 5 by kind only"),
+        (
+            kind.is_some_and(|kind| !part.knows(kind)),
+            "cycle: refusal 5 by block on parts 1 to 3 only",
+        ),
+        (
+            time.is_some_and(|time| running.left > time),
+            "cycle: refusal 5 by time left only",
+        ),
+        (
+            running.address >= part.cells,
+            "cycle: refusal 5 by address only",
+        ),
+        (running.data > part.blank(), "cycle: refusal 5 by data only"),
+        (
+            device.mode == Mode::Identification,
+            "cycle: refusal 5 by identification only",
+        ),
+        (device.stage > 0, "cycle: refusal 5 by a sequence only"),
+        (
+            device.recent == 1,
+            "cycle: refusal 5 by a completion 0 µs old only",
+        ),
+        (
+            device.recent > 1,
+            "cycle: refusal 5 by recent above 1, something running",
+        ),
+        (
+            device.turned > 1,
+            "cycle: refusal 5 by turned above 1, something running",
+        ),
+    ]
 }
 
 impl Watch {
@@ -342,7 +492,7 @@ impl Watch {
             return;
         }
         let part = Part::get(before.part).expect("an accepted part");
-        let left = before.device.left;
+        let left = before.device.running.left;
         let elapsed = command[1];
         if left > 0 {
             let left = u64::from(left);
@@ -357,6 +507,7 @@ impl Watch {
             self.see_operation(before, part, elapsed >= left, command);
         }
         self.see_completion(before, &station.device, part, command);
+        self.see_suspends(&before.device, &station.device, part, command, printed);
         let busy = u64::from(left) > elapsed;
         match command[0] {
             op::READ if busy => self.see_busy_read(printed[2]),
@@ -385,13 +536,13 @@ impl Watch {
     /// A cycle in which an operation completes, or that comes 0 µs or 1 µs
     /// after that.
     fn see_completion(&mut self, before: &Before, after: &Device, part: &Part, command: &[u64]) {
-        let (elapsed, left) = (command[1], u64::from(before.device.left));
+        let (elapsed, left) = (command[1], u64::from(before.device.running.left));
         let just = left > 0 && elapsed == left;
         let old = before.device.recent == 1 && elapsed == 0;
         let young = before.device.recent == 1 && elapsed == 1;
         let past = left > 0 && elapsed == left + 1;
         if just {
-            let kind = KINDS[before.device.kind as usize];
+            let kind = KINDS[before.device.running.kind as usize];
             self.counts
                 .add(&format!("cycle: {kind} completed just then"));
             let name = CYCLES[(command[0] - op::READ) as usize];
@@ -438,9 +589,13 @@ impl Watch {
         let (address, data) = (command[3] as u32, command[4] as u16);
         let erase = before.stage == 6 && part.erase(address, data).is_some();
         let left_by_command = before.stage == 2 && part.is_u1(address) && data & 0xFF == 0xF0;
-        let what = if after.left > 0 && before.stage == 3 {
+        let started = after.running.left > 0;
+        let what = if started && before.stage == 0 {
+            // It was resumed, which is counted with the suspends.
+            return;
+        } else if started && before.stage == 3 {
             "program started"
-        } else if after.left > 0 {
+        } else if started {
             "erase started"
         } else if after.stage > 0 {
             "sequence continued"
@@ -471,6 +626,10 @@ impl Watch {
             before.device.recent == 1 && in_range(part, &before.device),
             "cycle: refused, completion 0 µs old",
         );
+        self.counts.add_if(
+            before.device.suspended.left > 0 && in_range(part, &before.device),
+            "cycle: refused, an erase suspended",
+        );
         let addressed = matches!(command[0], op::READ | op::WRITE);
         let faults = [
             before.lent != part.cells as usize,
@@ -489,45 +648,12 @@ impl Watch {
 
     /// The grounds of a refusal 5 that stand alone.
     fn see_grounds(&mut self, part: &Part, device: &Device) {
-        if device.left == 0 {
-            self.counts.add(if device.stage > 6 {
-                "cycle: refusal 5 by stage above 6, nothing running"
-            } else {
-                "cycle: refusal 5 by recent above 1, nothing running"
-            });
-            return;
-        }
-        let kind = Kind::from_number(device.kind);
-        let time = kind.map(|kind| part.time(kind));
-        let grounds = [
-            (kind.is_none(), "cycle: refusal 5 by kind only"),
-            (
-                kind.is_some_and(|kind| !part.knows(kind)),
-                "cycle: refusal 5 by block on parts 1 to 3 only",
-            ),
-            (
-                time.is_some_and(|time| device.left > time),
-                "cycle: refusal 5 by time left only",
-            ),
-            (
-                device.address >= part.cells,
-                "cycle: refusal 5 by address only",
-            ),
-            (device.data > part.blank(), "cycle: refusal 5 by data only"),
-            (
-                device.mode == Mode::Identification,
-                "cycle: refusal 5 by identification only",
-            ),
-            (device.stage > 0, "cycle: refusal 5 by a sequence only"),
-            (
-                device.recent == 1,
-                "cycle: refusal 5 by a completion 0 µs old only",
-            ),
-            (
-                device.recent > 1,
-                "cycle: refusal 5 by recent above 1, something running",
-            ),
-        ];
+        let mut grounds = if device.running.left > 0 {
+            running_grounds(part, device)
+        } else {
+            resting_grounds(device)
+        };
+        grounds.extend(suspends::grounds(part, device));
         let holding: Vec<&str> = grounds
             .iter()
             .filter(|ground| ground.0)
@@ -596,28 +722,24 @@ impl Watch {
     /// A write at rest.
     fn see_write(&mut self, before: &Before, after: &Device, part: &Part, command: &[u64]) {
         let (wp, address, data) = (command[2], command[3] as u32, command[4] as u16);
-        let completed = before.device.left > 0;
-        let device = if completed {
-            Device::default()
-        } else {
-            before.device
-        };
-        let stray = device.address != 0 || device.data != 0 || device.kind != 0 || device.toggle;
+        let device = suspends::rested(&before.device);
+        let stray = is_stray(&device.running);
         let switched = device.stage > 0 && wp != self.last_wp;
         self.last_wp = wp;
         self.counts
             .add_if(switched, "cycle: WP# switched inside a sequence");
-        let asked = match device.stage {
-            3 => Some(Kind::Program),
-            6 => part.erase(address, data),
-            _ => None,
-        };
-        if let Some(kind) = asked {
+        if device.suspended.left > 0 && after.suspended.left == 0 {
+            // It resumes, which is counted with the suspends.
+            return;
+        }
+        if let Some(kind) = suspends::asked(&device, part, address, data) {
             self.counts
                 .add_if(switched, "cycle: WP# switched at the last write");
             self.see_last_write(&device, part, kind, address, wp == 1);
-            self.counts
-                .add_if(stray && after.left > 0, "cycle: started from stray fields");
+            self.counts.add_if(
+                stray && after.running.left > 0,
+                "cycle: started from stray fields",
+            );
             return;
         }
         self.counts
@@ -674,6 +796,9 @@ impl Watch {
         if part.protects(kind, address, wp_high) {
             self.counts
                 .add(&format!("cycle: {name} ignored by protection"));
+            return;
+        }
+        if held_back(part, device, kind, address) {
             return;
         }
         self.counts.add(&format!("cycle: {name} started"));
@@ -751,6 +876,10 @@ impl Watch {
         counts.add_if(
             kind == 1 && station.device.recent == 1 && refused == 0,
             "run: stopped as its operation completes",
+        );
+        counts.add_if(
+            kind == 0 && station.device.suspended.left > 0,
+            "run: over with an erase suspended",
         );
         if refused != 0 {
             self.counts.add("run: stopped by a refused cycle");

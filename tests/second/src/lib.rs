@@ -1,6 +1,6 @@
-//! The independent second program of the station: document 01, with wish 1 of
-//! document 02, written down once more, from the papers alone, as the oracle
-//! for the proved one.
+//! The independent second program of the station: document 01, with wishes 1
+//! and 2 of document 02, written down once more, from the papers alone, as the
+//! oracle for the proved one.
 //!
 //! The modules follow the document: the parts, the bus cycle, the driver, the
 //! job and its second call, the job file and `bill`.

@@ -68,6 +68,8 @@ pub struct Part {
     pub unlock: Unlock,
     pub sector_code: u16,
     pub block_code: u16,
+    /// Can its sector and block erases be suspended? Then bit 2 alternates.
+    pub suspends: bool,
     pin: Pin,
 }
 
@@ -84,6 +86,7 @@ const fn sf(cells: u32, device: u16) -> Part {
         unlock: LONG,
         sector_code: 0x30,
         block_code: 0x50,
+        suspends: false,
         pin: Pin::None,
     }
 }
@@ -97,18 +100,20 @@ const fn vf(cells: u32, device: u16) -> Part {
     }
 }
 
-/// Parts 7 and 8: slower, with the pin.
+/// Parts 7 and 8: slower, with the pin and with suspend.
 const fn wf(device: u16, pin: Pin) -> Part {
     Part {
         program_time: 28,
         erase_time: 36_000,
         chip_time: 140_000,
+        suspends: true,
         pin,
         ..vf(1_048_576, device)
     }
 }
 
-/// Parts 9 and 10: short unlock addresses, and the two codes the other way round.
+/// Parts 9 and 10: short unlock addresses, the two codes the other way round, and
+/// with suspend.
 const fn vf640(device: u16, pin: Pin) -> Part {
     Part {
         program_time: 7,
@@ -117,6 +122,7 @@ const fn vf640(device: u16, pin: Pin) -> Part {
         unlock: SHORT,
         sector_code: 0x50,
         block_code: 0x30,
+        suspends: true,
         pin,
         ..vf(4_194_304, device)
     }
@@ -186,6 +192,11 @@ impl Part {
     /// Does the part have this operation at all?
     pub fn knows(&self, kind: Kind) -> bool {
         kind != Kind::Block || self.has_blocks()
+    }
+
+    /// Can this operation be suspended while it runs?
+    pub fn can_suspend(&self, kind: Kind) -> bool {
+        self.suspends && matches!(kind, Kind::Sector | Kind::Block)
     }
 
     /// The cells that an operation at this address changes.

@@ -1,7 +1,7 @@
 //! The interpreter of recorded cases. FORMAT.md tells the commands.
 
 use crate::bill::{self, BENCH_CELLS};
-use crate::cycle::{cycle, Action, Cycle, Device, Mode};
+use crate::cycle::{cycle, Action, Cycle, Device, Mode, Operation};
 use crate::driver::{self, Driver, Named};
 use crate::file;
 use crate::job::{self, Bill, Job, Prefix};
@@ -104,9 +104,20 @@ fn level(number: u64) -> Result<bool, Misfit> {
 }
 
 /// How many numbers a device state has.
-pub const DEVICE_NUMBERS: usize = 8;
+pub const DEVICE_NUMBERS: usize = 14;
 
-/// A device state from its eight numbers.
+/// An operation from its five numbers.
+fn operation_from(numbers: &[u64]) -> Result<Operation, Misfit> {
+    Ok(Operation {
+        kind: long(numbers[0])?,
+        address: long(numbers[1])?,
+        data: word(numbers[2])?,
+        left: long(numbers[3])?,
+        toggle: level(numbers[4])?,
+    })
+}
+
+/// A device state from its fourteen numbers.
 fn device_from(numbers: &[u64]) -> Result<Device, Misfit> {
     Ok(Device {
         mode: if level(numbers[0])? {
@@ -115,26 +126,31 @@ fn device_from(numbers: &[u64]) -> Result<Device, Misfit> {
             Mode::Read
         },
         stage: long(numbers[1])?,
-        kind: long(numbers[2])?,
-        address: long(numbers[3])?,
-        data: word(numbers[4])?,
-        left: long(numbers[5])?,
-        toggle: level(numbers[6])?,
+        running: operation_from(&numbers[2..7])?,
         recent: long(numbers[7])?,
+        turned: long(numbers[8])?,
+        suspended: operation_from(&numbers[9..14])?,
     })
 }
 
-/// The eight numbers of a device state.
+/// The fourteen numbers of a device state.
 pub fn device_numbers(device: &Device) -> [u64; DEVICE_NUMBERS] {
+    let (running, suspended) = (&device.running, &device.suspended);
     [
         u64::from(device.mode == Mode::Identification),
         device.stage.into(),
-        device.kind.into(),
-        device.address.into(),
-        device.data.into(),
-        device.left.into(),
-        device.toggle.into(),
+        running.kind.into(),
+        running.address.into(),
+        running.data.into(),
+        running.left.into(),
+        running.toggle.into(),
         device.recent.into(),
+        device.turned.into(),
+        suspended.kind.into(),
+        suspended.address.into(),
+        suspended.data.into(),
+        suspended.left.into(),
+        suspended.toggle.into(),
     ]
 }
 
@@ -334,8 +350,8 @@ impl Station {
     /// Commands 20 to 24: the device's state and bus cycles.
     fn run_cycle(&mut self, command: &[u64]) -> Result<Option<Vec<u64>>, Misfit> {
         let (elapsed, wp, action) = match *command {
-            [op::DEVICE, _, _, _, _, _, _, _, _] => {
-                self.device = device_from(&command[1..])?;
+            [op::DEVICE, ref state @ ..] if state.len() == DEVICE_NUMBERS => {
+                self.device = device_from(state)?;
                 return Ok(None);
             }
             [op::READ, elapsed, wp, address] => {

@@ -1,19 +1,14 @@
 //! Bus cycles: right and broken sequences, times at the edges, the moment of
-//! a completion, cuts, given states and refusals.
+//! a completion, B0H and 30H where they suspend and resume and where they do
+//! not, cuts, given states and refusals.
 
 use super::Maker;
-use crate::cycle::Mode;
+use crate::cycle::{Device, Mode, Operation};
 use crate::part::{Kind, Part};
-use crate::station::{device_numbers, op, DEVICE_NUMBERS};
+use crate::station::op;
 
 /// Bus cycles in one case of a walk.
 const WALK: u64 = 24;
-
-/// The fresh device.
-const FRESH: [u64; DEVICE_NUMBERS] = [0; DEVICE_NUMBERS];
-
-/// Where `recent` stands in a device state.
-const RECENT: usize = 7;
 
 /// Makes so many cases on these parts in turn.
 pub fn make(maker: &mut Maker, parts: &[u64], cases: u64) {
@@ -35,27 +30,50 @@ pub fn make(maker: &mut Maker, parts: &[u64], cases: u64) {
         if maker.random.percent(25) {
             maker.completion();
         }
-        // The next case begins on an idle chip, sometimes without a cut.
-        if maker.random.percent(70) {
-            let scar = maker.random.word();
-            maker.cycle(&[op::CUT, 0, 1, scar]);
-        } else {
-            maker.cycle(&[op::IDLE, 4_294_967_295, 0]);
-        }
+        maker.settle();
     }
 }
 
 impl Maker {
-    /// Sends a bus cycle, and shows the cells of an operation that it ended.
-    fn cycle(&mut self, command: &[u64]) {
-        let before = self.station.device;
-        let printed = self.send(command);
-        let ended = printed[1] == 0 && before.left > 0 && self.station.device.left == 0;
-        if !ended {
+    /// Leaves the chip idle for the next case: by a cut, or by letting all that
+    /// is under way complete.
+    pub(super) fn settle(&mut self) {
+        if self.random.percent(70) {
+            let scar = self.random.word();
+            self.cycle(&[op::CUT, 0, 1, scar]);
             return;
         }
-        let kind = Kind::from_number(before.kind).expect("a running operation");
-        let range = self.part().range(kind, before.address);
+        self.cycle(&[op::IDLE, 4_294_967_295, 0]);
+        if self.station.device.suspended.left > 0 {
+            let address = self.address();
+            for code in [0xF0, 0x30] {
+                self.cycle(&[op::WRITE, 0, 1, address, code]);
+                self.cycle(&[op::IDLE, 4_294_967_295, 0]);
+            }
+        }
+    }
+
+    /// Sends a bus cycle, and shows the cells of what it completes or cuts.
+    pub(super) fn cycle(&mut self, command: &[u64]) {
+        let before = self.station.device;
+        if self.send(command)[1] != 0 {
+            return;
+        }
+        let cut = command[0] == op::CUT;
+        let left = u64::from(before.running.left);
+        if left > 0 && (cut || command[1] >= left) {
+            self.show_ended(&before.running);
+        }
+        if cut && before.suspended.left > 0 {
+            self.show_ended(&before.suspended);
+        }
+    }
+
+    /// Shows the cells of an operation that is over, and after an erase mostly
+    /// fills them anew.
+    fn show_ended(&mut self, operation: &Operation) {
+        let kind = operation.known().expect("an operation under way");
+        let range = self.part().range(kind, operation.address);
         self.show(range.start.into(), range.end.into());
         if kind != Kind::Program && self.random.percent(90) {
             let (a, b, mask) = self.random_pattern(self.station.part.into());
@@ -75,7 +93,7 @@ impl Maker {
 
     /// An address that the unlock compare takes as this one: it may differ
     /// above the bits that are compared.
-    fn alias(&mut self, address: u32) -> u64 {
+    pub(super) fn alias(&mut self, address: u32) -> u64 {
         let step = u64::from(self.part().unlock.mask) + 1;
         let above = self.random.below(self.cells() / step);
         if self.random.percent(50) {
@@ -86,7 +104,7 @@ impl Maker {
     }
 
     /// A code as data: on sixteen-bit parts sometimes with a high byte.
-    fn code(&mut self, code: u64) -> u64 {
+    pub(super) fn code(&mut self, code: u64) -> u64 {
         if self.part().width == 16 && self.random.percent(40) {
             code | self.random.below(256) << 8
         } else {
@@ -95,15 +113,15 @@ impl Maker {
     }
 
     /// Data that the part takes.
-    fn data(&mut self) -> u64 {
+    pub(super) fn data(&mut self) -> u64 {
         let data = self.random.word();
         self.part().value(data as u16).into()
     }
 
     /// An elapsed time that matters: around the time left of an operation, or
     /// none after its end.
-    fn elapsed(&mut self) -> u64 {
-        let left = u64::from(self.station.device.left);
+    pub(super) fn elapsed(&mut self) -> u64 {
+        let left = u64::from(self.station.device.running.left);
         if self.station.device.recent == 1 {
             return self
                 .random
@@ -128,7 +146,7 @@ impl Maker {
 
     /// The write that continues the sequence at this stage, as address and
     /// data.
-    fn right_write(&mut self, stage: u32) -> (u64, u64) {
+    pub(super) fn right_write(&mut self, stage: u32) -> (u64, u64) {
         let part = self.part();
         let (address, code) = match stage {
             0 | 4 => (self.alias(part.unlock.u1), 0xAA),
@@ -175,9 +193,35 @@ impl Maker {
         }
     }
 
+    /// B0H or 30H at any address, which suspends or resumes, or does not.
+    fn hold_write(&mut self) -> (u64, u64) {
+        let running = self.station.device.running.left > 0;
+        let code = if running {
+            self.random.weigh(&[(9, 0xB0), (1, 0x30)])
+        } else {
+            self.random.pick(&[0xB0, 0x30])
+        };
+        (self.address(), self.code(code))
+    }
+
+    /// The next write of a walk: mostly the right one, and while something runs
+    /// or is suspended often B0H or 30H.
+    fn walking_write(&mut self) -> (u64, u64) {
+        let device = self.station.device;
+        let held = device.running.left > 0 || device.suspended.left > 0;
+        let hold = if held { 30 } else { 4 };
+        if self.random.percent(hold) {
+            self.hold_write()
+        } else if self.random.percent(85) {
+            self.right_write(device.stage)
+        } else {
+            self.near_miss(device.stage)
+        }
+    }
+
     /// A walk from wherever the device is: mostly continuing the sequence,
     /// sometimes missing it, reading, idling, cutting the power.
-    fn walk(&mut self, cycles: u64) {
+    pub(super) fn walk(&mut self, cycles: u64) {
         let mut wp = self.random.bit();
         for _ in 0..cycles {
             let device = self.station.device;
@@ -186,7 +230,7 @@ impl Maker {
                 wp = 1 - wp;
             }
             let elapsed = self.elapsed();
-            let busy = u64::from(device.left) > elapsed;
+            let busy = u64::from(device.running.left) > elapsed;
             let choice = if busy {
                 self.random
                     .weigh(&[(50, 'r'), (20, 'w'), (16, 'i'), (14, 'c')])
@@ -200,11 +244,7 @@ impl Maker {
                     self.cycle(&[op::READ, elapsed, wp, address]);
                 }
                 'w' => {
-                    let (address, data) = if self.random.percent(85) {
-                        self.right_write(device.stage)
-                    } else {
-                        self.near_miss(device.stage)
-                    };
+                    let (address, data) = self.walking_write();
                     if device.stage == 3 && self.random.percent(60) {
                         let old = self.random.word();
                         let old = if self.random.percent(80) {
@@ -225,14 +265,19 @@ impl Maker {
         }
     }
 
-    /// An address to read: often one that identification answers.
+    /// An address to read: often one that identification answers, or of an
+    /// operation that runs or is suspended.
     fn read_address(&mut self) -> u64 {
-        let shown = self.station.device.mode == Mode::Identification;
+        let device = self.station.device;
+        let shown = device.mode == Mode::Identification;
         match self.random.below(4) {
             0 | 1 if shown => self.random.bit(),
             2 if shown => self.random.pick(&[2, 2_048, 4_096]),
-            _ if self.station.device.left > 0 && self.random.percent(50) => {
-                self.station.device.address.into()
+            _ if device.running.left > 0 && self.random.percent(50) => {
+                device.running.address.into()
+            }
+            _ if device.suspended.left > 0 && self.random.percent(50) => {
+                device.suspended.address.into()
             }
             _ => self.address(),
         }
@@ -269,8 +314,8 @@ impl Maker {
             let goal = self.random.weigh(&[(4, 0xA0), (6, 0x80)]);
             self.sequence(goal, wp);
         }
-        let left = u64::from(self.station.device.left);
-        let address = u64::from(self.station.device.address);
+        let left = u64::from(self.station.device.running.left);
+        let address = u64::from(self.station.device.running.address);
         match self.random.below(8) {
             0..=2 => self.cycle(&[op::READ, left, wp, address]),
             3..=4 => {
@@ -373,13 +418,27 @@ impl Maker {
         }
     }
 
-    /// The numbers of a valid state at rest, with stray fields.
-    fn resting_state(&mut self) -> [u64; DEVICE_NUMBERS] {
-        let (mode, stage) = (self.random.bit(), self.random.below(7));
-        let kind = self.random.pick(&[0, 1, 2, 3, 4, 255]);
-        let (address, data) = (self.random.long(), self.random.word());
-        let (toggle, recent) = (self.random.bit(), self.random.bit());
-        [mode, stage, kind, address, data, 0, toggle, recent]
+    /// What may stand in the fields of an operation while there is none.
+    pub(super) fn stray(&mut self) -> Operation {
+        Operation {
+            kind: self.random.pick(&[0, 1, 2, 3, 4, 255]),
+            address: self.random.long() as u32,
+            data: self.random.word() as u16,
+            left: 0,
+            toggle: self.random.percent(50),
+        }
+    }
+
+    /// A valid state at rest, with stray fields.
+    pub(super) fn resting_state(&mut self) -> Device {
+        Device {
+            mode: self.random.pick(&[Mode::Read, Mode::Identification]),
+            stage: self.random.below(7) as u32,
+            running: self.stray(),
+            recent: self.random.bit() as u32,
+            turned: self.random.bit() as u32,
+            suspended: self.stray(),
+        }
     }
 
     /// A given state at rest, and what follows from it.
@@ -389,8 +448,26 @@ impl Maker {
         self.walk(8);
     }
 
-    /// The numbers of a valid state with an operation running.
-    fn running_state(&mut self) -> [u64; DEVICE_NUMBERS] {
+    /// An operation of this kind under way, with a time left that matters.
+    pub(super) fn under_way(&mut self, kind: Kind) -> Operation {
+        let time = u64::from(self.part().time(kind));
+        let left = match self.random.below(4) {
+            0 => 1,
+            1 => time,
+            2 => 1.max(time - 1),
+            _ => self.random.between(1, time),
+        };
+        Operation {
+            kind: kind.number(),
+            address: self.address() as u32,
+            data: self.data() as u16,
+            left: left as u32,
+            toggle: self.random.percent(50),
+        }
+    }
+
+    /// A valid state with an operation running.
+    fn running_state(&mut self) -> Device {
         let part = self.part();
         let kind = loop {
             let chip = if part.cells < 10_000 { 3 } else { 1 };
@@ -400,42 +477,35 @@ impl Maker {
                 break kind;
             }
         };
-        let time = u64::from(part.time(kind));
-        let left = match self.random.below(4) {
-            0 => 1,
-            1 => time,
-            2 => 1.max(time - 1),
-            _ => self.random.between(1, time),
-        };
-        let (address, data) = (self.address(), self.data());
-        [
-            0,
-            0,
-            kind.number().into(),
-            address,
-            data,
-            left,
-            self.random.bit(),
-            0,
-        ]
+        Device {
+            running: self.under_way(kind),
+            turned: self.random.bit() as u32,
+            suspended: self.stray(),
+            ..Device::default()
+        }
     }
 
     /// A given state with an operation running, and what follows from it.
     fn given_operation(&mut self) {
         let state = self.running_state();
-        if state[2] == 0 && self.random.percent(70) {
+        if state.running.kind == 0 && self.random.percent(70) {
             let old = self.random.word();
-            self.send(&[op::PATCH, state[3], old]);
+            self.send(&[op::PATCH, state.running.address.into(), old]);
         }
         self.send_state(&state);
         self.walk(8);
     }
 
-    /// Gives the device a state.
-    fn send_state(&mut self, state: &[u64; DEVICE_NUMBERS]) {
-        let mut command = vec![op::DEVICE];
-        command.extend(state);
-        self.send(&command);
+    /// A cycle of any kind that is itself without fault.
+    pub(super) fn any_cycle(&mut self) {
+        let (elapsed, wp) = (self.elapsed(), self.random.bit());
+        let (address, data) = (self.address(), self.data());
+        match self.random.below(4) {
+            0 => self.cycle(&[op::READ, elapsed, wp, address]),
+            1 => self.cycle(&[op::WRITE, elapsed, wp, address, data]),
+            2 => self.cycle(&[op::IDLE, elapsed, wp]),
+            _ => self.cycle(&[op::CUT, elapsed, wp, data]),
+        }
     }
 
     /// Cycles in which only the state is at fault.
@@ -444,16 +514,9 @@ impl Maker {
         for _ in 0..6 {
             let state = self.bad_state(part, cells);
             self.send_state(&state);
-            let (elapsed, wp) = (self.elapsed(), self.random.bit());
-            let (address, data) = (self.address(), self.data());
-            match self.random.below(4) {
-                0 => self.cycle(&[op::READ, elapsed, wp, address]),
-                1 => self.cycle(&[op::WRITE, elapsed, wp, address, data]),
-                2 => self.cycle(&[op::IDLE, elapsed, wp]),
-                _ => self.cycle(&[op::CUT, elapsed, wp, data]),
-            }
+            self.any_cycle();
         }
-        self.send_state(&FRESH);
+        self.send_state(&Device::default());
     }
 
     /// Refused cycles: one fault or several at once.
@@ -461,7 +524,7 @@ impl Maker {
         for _ in 0..8 {
             let number = u64::from(self.station.part);
             let cells = self.cells();
-            let before = device_numbers(&self.station.device);
+            let before = self.station.device;
             // Bits of the faults: part, lent, state, address, data.
             let eight = self.part().width == 8;
             let faults = match self.random.below(4) {
@@ -508,10 +571,10 @@ impl Maker {
                 _ => vec![op::CUT, elapsed, wp, data],
             };
             // The part may be unknown here, so the cells are shown only below.
-            let left = self.station.device.left;
+            let left = self.station.device.running.left;
             let accepted = self.send(&command)[1] == 0;
             self.send(&[op::LENT, number, cells]);
-            if accepted && left > 0 && self.station.device.left == 0 {
+            if accepted && left > 0 && self.station.device.running.left == 0 {
                 self.send(&[op::HASH, 0, cells.min(8_192)]);
             }
             if !accepted && self.random.percent(30) {
@@ -521,7 +584,7 @@ impl Maker {
                 0 => before,
                 1 => self.running_state(),
                 2 => self.resting_state(),
-                _ => FRESH,
+                _ => Device::default(),
             };
             self.send_state(&state);
         }
@@ -546,64 +609,86 @@ impl Maker {
     }
 
     /// A state out of range: mostly by one ground alone.
-    fn bad_state(&mut self, part: &Part, cells: u64) -> [u64; DEVICE_NUMBERS] {
-        let mut state = loop {
-            // The station's own part may be unknown while this is made, so
-            // the state is made here for the part that the chip really has.
-            let kind = self.random.below(4);
-            let known = Kind::from_number(kind as u32).expect("one of four");
-            if part.knows(known) {
-                let time = u64::from(part.time(known));
-                let left = self.random.between(1, time);
-                let address = self.random.below(cells);
-                break [
-                    0,
-                    0,
-                    kind,
-                    address,
-                    self.random.below(256),
-                    left,
-                    self.random.bit(),
-                    0,
-                ];
-            }
+    fn bad_state(&mut self, part: &Part, cells: u64) -> Device {
+        let mut state = Device {
+            running: loop {
+                // The station's own part may be unknown while this is made, so
+                // the state is made here for the part that the chip really has.
+                let kind = self.random.pick(&Kind::ALL);
+                if part.knows(kind) {
+                    break self.sound(part, kind);
+                }
+            },
+            turned: self.random.bit() as u32,
+            suspended: self.stray(),
+            ..Device::default()
         };
         for _ in 0..self.random.weigh(&[(8, 1), (2, 2)]) {
-            let ground = if part.width == 8 {
-                self.random
-                    .pick(&[0, 1, 2, 3, 4, 5, 6, 6, 6, 7, 7, 7, 8, 9])
-            } else {
-                self.random.pick(&[0, 1, 2, 3, 4, 5, 6, 8, 9])
-            };
-            match ground {
-                0 => state[0] = 1,
-                1 => state[1] = self.random.between(1, 7),
-                2 => {
-                    state[1] = self.random.pick(&[7, 8, 255]);
-                    state[5] = 0;
-                }
-                3 => state[2] = self.random.pick(&[4, 5, 7, 255]),
-                4 => {
-                    let times = [part.program_time, part.erase_time, part.chip_time];
-                    let time = times[[0, 1, 1, 2][state[2].min(3) as usize]];
-                    let far = self.random.long();
-                    state[5] = self.random.pick(&[u64::from(time) + 1, 4_294_967_295, far]);
-                }
-                5 => state[3] = self.random.pick(&[cells, cells + 1, 4_294_967_295]),
-                // The parts without blocks are those of eight bits.
-                6 if part.width == 8 => state[4] = self.random.between(256, 65_535),
-                7 if part.width == 8 => {
-                    state[2] = 2;
-                    state[5] = self.random.between(1, 18_000);
-                }
-                8 => state[RECENT] = 1,
-                9 => {
-                    state[RECENT] = self.random.pick(&[2, 3, 255]);
-                    state[5] *= self.random.bit();
-                }
-                _ => state[1] = self.random.pick(&[7, 255]),
-            }
+            self.spoil(part, cells, &mut state);
         }
         state
+    }
+
+    /// An operation that this part could have under way.
+    fn sound(&mut self, part: &Part, kind: Kind) -> Operation {
+        Operation {
+            kind: kind.number(),
+            address: self.random.below(part.cells.into()) as u32,
+            data: self.random.below(256) as u16,
+            left: self.random.between(1, part.time(kind).into()) as u32,
+            toggle: self.random.percent(50),
+        }
+    }
+
+    /// Gives a state with something running a ground for refusal 5.
+    fn spoil(&mut self, part: &Part, cells: u64, state: &mut Device) {
+        let ground = if part.width == 8 {
+            self.random
+                .pick(&[0, 1, 2, 3, 4, 5, 6, 6, 6, 7, 7, 7, 8, 9, 10, 11])
+        } else {
+            self.random.pick(&[0, 1, 2, 3, 4, 5, 6, 8, 9, 10, 11])
+        };
+        let running = &mut state.running;
+        match ground {
+            0 => state.mode = Mode::Identification,
+            1 => state.stage = self.random.between(1, 7) as u32,
+            2 => {
+                state.stage = self.random.pick(&[7, 8, 255]);
+                running.left = 0;
+            }
+            3 => running.kind = self.random.pick(&[4, 5, 7, 255]),
+            4 => {
+                let kind = Kind::from_number(running.kind).unwrap_or(Kind::Chip);
+                let far = self.random.long() as u32;
+                let left = self.random.pick(&[part.time(kind) + 1, u32::MAX, far]);
+                running.left = left;
+            }
+            5 => {
+                let far = self.random.pick(&[cells, cells + 1, 4_294_967_295]);
+                running.address = far as u32;
+            }
+            // The parts without blocks are those of eight bits.
+            6 if part.width == 8 => running.data = self.random.between(256, 65_535) as u16,
+            7 if part.width == 8 => {
+                running.kind = 2;
+                running.left = self.random.between(1, 18_000) as u32;
+            }
+            8 => state.recent = 1,
+            9 => {
+                state.recent = self.random.pick(&[2, 3, 255]);
+                running.left *= self.random.bit() as u32;
+            }
+            10 => {
+                state.turned = self.random.pick(&[2, 3, 255]);
+                running.left *= self.random.bit() as u32;
+            }
+            // On parts 0 to 6 nothing can be suspended; on the others this may
+            // be no ground.
+            11 if !part.suspends => {
+                running.left = 0;
+                state.suspended = self.sound(part, Kind::Sector);
+            }
+            _ => state.stage = self.random.pick(&[7, 255]),
+        }
     }
 }

@@ -2,6 +2,7 @@
 //! and its runs against the model.
 
 use super::Maker;
+use crate::cycle::{Device, Mode, Operation};
 use crate::driver;
 use crate::part::{Kind, Part};
 use crate::station::op;
@@ -379,7 +380,7 @@ impl Maker {
         self.send(&[op::HASH, start, start + sector]);
         // Leave nothing running, and something to erase next time.
         self.send(&[op::LENT, chip, self.cells()]);
-        self.send(&[op::DEVICE, 0, 0, 0, 0, 0, 0, 0, 0]);
+        self.send_state(&Device::default());
         if command.kind != Kind::Program {
             let (a, b, mask) = self.random_pattern(chip);
             self.send(&[op::FILL, start, start + sector, a, b, mask]);
@@ -389,27 +390,30 @@ impl Maker {
     /// The device before a run: mostly fresh.
     fn prepare_device(&mut self) {
         let cells = self.cells();
-        match self.random.below(10) {
+        let mut state = Device::default();
+        match self.random.below(11) {
             0 => {
-                let stage = self.random.below(7);
-                let (mode, recent) = (self.random.bit(), self.random.bit());
-                self.send(&[op::DEVICE, mode, stage, 0, 0, 0, 0, 0, recent]);
+                state.mode = self.random.pick(&[Mode::Read, Mode::Identification]);
+                state.stage = self.random.below(7) as u32;
+                state.recent = self.random.bit() as u32;
             }
             1 => {
-                let left = self.random.between(1, 14);
-                let address = self.random.below(cells);
-                let recent = u64::from(self.random.percent(10));
-                self.send(&[op::DEVICE, 0, 0, 0, address, 0x55, left.min(7), 1, recent]);
+                state.running = Operation {
+                    kind: 0,
+                    address: self.random.below(cells) as u32,
+                    data: 0x55,
+                    left: self.random.between(1, 14).min(7) as u32,
+                    toggle: true,
+                };
+                state.recent = u32::from(self.random.percent(10));
             }
-            2 => {
-                let stage = self.random.pick(&[7, 255]);
-                self.send(&[op::DEVICE, 0, stage, 0, 0, 0, 0, 0, 0]);
-            }
-            3 => {
-                self.send(&[op::DEVICE, 0, 0, 0, 0, 0, 0, 0, 1]);
-            }
-            _ => {}
+            2 => state.stage = self.random.pick(&[7, 255]),
+            3 => state.recent = 1,
+            // Out of range on parts 0 to 6.
+            4 => state.suspended = self.under_way(Kind::Sector),
+            _ => return,
         }
+        self.send_state(&state);
     }
 
     /// Runs a part of the way, does something to the chip, and tells whether
@@ -434,7 +438,8 @@ impl Maker {
             }
             1 => {
                 let address = self.random.below(cells);
-                self.send(&[op::WRITE, 0, wp, address, 0xF0]);
+                let code = self.random.pick(&[0xF0, 0xB0, 0xB0, 0x30]);
+                self.send(&[op::WRITE, 0, wp, address, code]);
             }
             2 => {
                 self.send(&[op::IDLE, 200_000, wp]);

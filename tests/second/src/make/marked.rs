@@ -1,5 +1,5 @@
 //! The marked cases of document 01 as recorded cases, and beside them the
-//! moment in which an operation completes.
+//! moment in which an operation completes, and an erase that is suspended.
 
 use super::Maker;
 use crate::part::Part;
@@ -61,6 +61,55 @@ impl Maker {
         self.send(&[op::READ, time, 1, 100]);
         self.send(&[op::READ, 0, 1, 100]);
         self.send(&[op::READ, 1, 1, 100]);
+    }
+
+    /// Some reads with no time between.
+    fn read_each(&mut self, addresses: &[u64]) {
+        for address in addresses {
+            self.send(&[op::READ, 0, 1, *address]);
+        }
+    }
+
+    /// A chip of 1234H, and a sector erase at an address, suspended by B0H at 0
+    /// after some µs.
+    fn suspend_a_sector(&mut self, number: u64, address: u64, elapsed: u64) {
+        self.even_chip(number, 0x1234);
+        let code = self.part().sector_code.into();
+        self.erase(1, address, code);
+        self.send(&[op::WRITE, elapsed, 1, 0, 0xB0]);
+    }
+
+    /// Sector 2,048 to 4,095 suspended after 100 µs: reads in it and beside it,
+    /// a program beside it, the resume, the end.
+    fn held_to_fetch(&mut self, number: u64) {
+        self.suspend_a_sector(number, 2_053, 100);
+        self.read_each(&[2_048, 4_095, 2_047, 4_096, 2_053]);
+        self.program(1, 4_096, 0x0F0F);
+        self.read_each(&[4_096, 2_053]);
+        let (time, erase) = (self.part().program_time, self.part().erase_time);
+        self.send(&[op::IDLE, time.into(), 1]);
+        self.send(&[op::READ, 1, 1, 4_096]);
+        self.read_each(&[2_053]);
+        self.send(&[op::WRITE, 50, 1, 0, 0x30]);
+        self.read_each(&[2_053, 2_047, 2_053]);
+        self.send(&[op::IDLE, u64::from(erase) - 101, 1]);
+        self.send(&[op::READ, 1, 1, 2_053]);
+        self.send(&[op::READ, 1, 1, 2_053]);
+        self.read_each(&[2_047, 2_048, 4_095, 4_096]);
+        self.send(&[op::HASH, 0, 8_192]);
+    }
+
+    /// A cut with scar 00FFH while sector 4,096 to 6,143 is suspended and a
+    /// program of 3400H runs on the blank cell after it.
+    fn cut_while_suspended(&mut self, number: u64) {
+        self.suspend_a_sector(number, 5_000, 10);
+        self.send(&[op::PATCH, 6_144, 0xFFFF]);
+        self.program(1, 6_144, 0x3400);
+        self.send(&[op::CUT, 5, 1, 0x00FF]);
+        for edge in [4_095, 4_096, 6_143, 6_144, 6_145] {
+            self.send(&[op::CELL, edge]);
+        }
+        self.read_each(&[4_096, 6_144]);
     }
 }
 
@@ -146,6 +195,11 @@ pub fn make(maker: &mut Maker, _: u64) {
     maker.read_at_the_end(5, 0x1234);
     maker.send(&[op::MARK, 13]);
     maker.read_at_the_end(3, 0x34);
+
+    maker.send(&[op::MARK, 14]);
+    maker.held_to_fetch(7);
+    maker.send(&[op::MARK, 15]);
+    maker.cut_while_suspended(7);
 }
 
 /// The cases of part 9.
@@ -157,4 +211,9 @@ pub fn make_large(maker: &mut Maker, _: u64) {
     maker.writes(1, &[(0x5555, 0xAA), (0x2AAA, 0x55), (0x5555, 0x90)]);
     maker.send(&[op::READ, 0, 1, 0]);
     maker.send(&[op::READ, 0, 1, 1]);
+
+    maker.send(&[op::MARK, 14]);
+    maker.held_to_fetch(9);
+    maker.send(&[op::MARK, 15]);
+    maker.cut_while_suspended(9);
 }

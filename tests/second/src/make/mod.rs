@@ -7,17 +7,30 @@ mod files;
 mod jobs;
 mod loads;
 mod marked;
+mod suspends;
 
 pub use files::{job_file, marked_file};
 pub use loads::{asked, words};
 
+use crate::cycle::Device;
 use crate::events::{Before, Counts, Watch};
 use crate::part::Part;
 use crate::random::Random;
-use crate::station::{line_of, op, Station, LARGE, SMALL};
+use crate::station::{device_numbers, line_of, op, Station, LARGE, SMALL};
 
 /// The longest line that a recorded file may have, with its line end.
 const LONGEST_LINE: usize = 200;
+
+/// The most numbers that a line may have.
+const MOST_NUMBERS: usize = 28;
+
+/// The text of a line, which is not too long.
+fn text_of(numbers: &[u64]) -> String {
+    let line = line_of(numbers);
+    assert!(line.len() <= LONGEST_LINE, "too long: {line}");
+    assert!(numbers.len() <= MOST_NUMBERS, "too many: {line}");
+    line
+}
 
 /// A recorded file: what is read and what has to be printed.
 pub struct Recorded {
@@ -56,17 +69,20 @@ impl Maker {
             .station
             .run(command)
             .unwrap_or_else(|misfit| panic!("{command:?}: {misfit}"));
-        let line = line_of(command);
-        assert!(line.len() <= LONGEST_LINE, "too long: {line}");
-        self.input.push_str(&line);
+        self.input.push_str(&text_of(command));
         let Some(numbers) = printed else {
             return Vec::new();
         };
         self.watch.see(&before, &self.station, command, &numbers);
-        let line = line_of(&numbers);
-        assert!(line.len() <= LONGEST_LINE, "too long: {line}");
-        self.expected.push_str(&line);
+        self.expected.push_str(&text_of(&numbers));
         numbers
+    }
+
+    /// Gives the device a state.
+    fn send_state(&mut self, state: &Device) {
+        let mut command = vec![op::DEVICE];
+        command.extend(device_numbers(state));
+        self.send(&command);
     }
 
     /// The part of the chip.
@@ -151,6 +167,10 @@ const KINDS: &[(&str, usize, Make)] = &[
     ("cycles-vf", SMALL, |m, n| cycles::make(m, &[4, 5, 6], n)),
     ("cycles-wf", SMALL, |m, n| cycles::make(m, &[7, 8], n)),
     ("cycles-large", LARGE, |m, n| cycles::make(m, &[9, 10], n)),
+    ("suspends-wf", SMALL, |m, n| suspends::make(m, &[7, 8], n)),
+    ("suspends-large", LARGE, |m, n| {
+        suspends::make(m, &[9, 10], n)
+    }),
     ("driver-calls", SMALL, drivers::make_calls),
     ("driver-steps", SMALL, drivers::make_steps),
     ("driver-runs", SMALL, |m, n| {
@@ -172,7 +192,7 @@ pub const RECORDED: &[(&str, u64, u64)] = &[
     ("marked", 0, 1),
     ("marked-large", 0, 1),
     ("cycles-bench", 1, 300),
-    ("cycles-sf", 2, 450),
+    ("cycles-sf", 2, 500),
     ("cycles-vf", 3, 240),
     ("cycles-wf", 4, 300),
     ("cycles-large", 5, 240),
@@ -186,6 +206,8 @@ pub const RECORDED: &[(&str, u64, u64)] = &[
     ("jobs-large", 13, 50),
     ("files", 14, 800),
     ("figures", 15, 200),
+    ("suspends-wf", 16, 400),
+    ("suspends-large", 17, 150),
 ];
 
 /// The names of all kinds.

@@ -1,7 +1,26 @@
 //! A chip with its cells and device, for short tests.
 
-use second::cycle::{cycle, Action, Cycle, Device, Reply};
+use second::cycle::{cycle, Action, Cycle, Device, Mode, Operation, Reply};
 use second::part::Part;
+
+/// No operation: five zeros.
+pub const NONE: Operation = Operation {
+    kind: 0,
+    address: 0,
+    data: 0,
+    left: 0,
+    toggle: false,
+};
+
+/// The fresh device: fourteen zeros.
+pub const FRESH: Device = Device {
+    mode: Mode::Read,
+    stage: 0,
+    running: NONE,
+    recent: 0,
+    turned: 0,
+    suspended: NONE,
+};
 
 pub struct Chip {
     pub number: u32,
@@ -19,7 +38,7 @@ impl Chip {
             number,
             part,
             cells: vec![part.blank(); part.cells as usize],
-            device: Device::default(),
+            device: FRESH,
             wp_high: true,
         }
     }
@@ -42,7 +61,11 @@ impl Chip {
     }
 
     pub fn write(&mut self, address: u32, data: u16) {
-        let reply = self.cycle(0, Action::Write { address, data });
+        self.write_after(0, address, data);
+    }
+
+    pub fn write_after(&mut self, elapsed: u32, address: u32, data: u16) {
+        let reply = self.cycle(elapsed, Action::Write { address, data });
         assert_eq!((reply.answer, reply.value), (0, 0));
     }
 
@@ -54,7 +77,7 @@ impl Chip {
     pub fn cut(&mut self, elapsed: u32, scar: u16) {
         let reply = self.cycle(elapsed, Action::Cut { scar });
         assert_eq!((reply.answer, reply.value), (0, 0));
-        assert_eq!(self.device, Device::default());
+        assert_eq!(self.device, FRESH);
     }
 
     /// AAH at U1 and 55H at U2.
@@ -83,6 +106,10 @@ impl Chip {
     }
 
     pub fn busy(&self) -> bool {
-        self.device.left > 0
+        self.device.running.left > 0
+    }
+
+    pub fn suspended(&self) -> bool {
+        self.device.suspended.left > 0
     }
 }

@@ -1,21 +1,12 @@
 //! The word that comes a microsecond after bit 7: document 02's first wish.
 
-use crate::chip::Chip;
-use second::cycle::{cycle, Action, Cycle, Device, Mode};
+use crate::chip::{Chip, FRESH, NONE};
+use second::cycle::{cycle, Action, Cycle, Device, Mode, Operation};
 use second::driver::{start, step, Named};
 use second::part::Kind;
 
 /// The fresh device, with a completion 0 µs old.
-const RECENT: Device = Device {
-    mode: Mode::Read,
-    stage: 0,
-    kind: 0,
-    address: 0,
-    data: 0,
-    left: 0,
-    toggle: false,
-    recent: 1,
-};
+const RECENT: Device = Device { recent: 1, ..FRESH };
 
 /// A blank chip on which a program of 0 at this address has just ended.
 fn just_programmed(number: u32, address: u32) -> Chip {
@@ -85,7 +76,7 @@ fn only_a_time_equal_to_the_time_left_shows_it() {
     let mut chip = Chip::blank(0);
     chip.program(9, 0);
     chip.idle(15);
-    assert_eq!(chip.device, Device::default());
+    assert_eq!(chip.device, FRESH);
     assert_eq!(chip.read(0, 9), 0);
 }
 
@@ -177,7 +168,7 @@ fn any_time_ends_it_in_any_cycle() {
         for action in [Action::Idle, Action::Read { address }, write] {
             let mut chip = just_programmed(5, address);
             chip.cycle(elapsed, action);
-            assert_eq!(chip.device, Device::default());
+            assert_eq!(chip.device, FRESH);
             assert_eq!(chip.read(0, address), 0);
         }
     }
@@ -234,14 +225,9 @@ fn answer(device: Device) -> u32 {
 #[test]
 fn refusal_5_covers_it() {
     for left in [1, 14] {
-        assert_eq!(answer(Device { left, ..RECENT }), 5);
-        let recent = 0;
-        let running = Device {
-            left,
-            recent,
-            ..RECENT
-        };
-        assert_eq!(answer(running), 0);
+        let running = Operation { left, ..NONE };
+        assert_eq!(answer(Device { running, ..RECENT }), 5);
+        assert_eq!(answer(Device { running, ..FRESH }), 0);
     }
     for mode in [Mode::Read, Mode::Identification] {
         for stage in 0..=7 {
@@ -258,9 +244,9 @@ fn refusal_5_covers_it() {
     for recent in [2, u32::MAX] {
         for left in [0, 14] {
             let given = Device {
-                left,
+                running: Operation { left, ..NONE },
                 recent,
-                ..RECENT
+                ..FRESH
             };
             assert_eq!(answer(given), 5);
         }

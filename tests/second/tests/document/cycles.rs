@@ -1,20 +1,16 @@
 //! Bus cycles: refusals and their order, and the points that the document
 //! decides in few words.
 
-use crate::chip::Chip;
-use second::cycle::{cycle, Action, Cycle, Device, Mode};
+use crate::chip::{Chip, FRESH, NONE};
+use second::cycle::{cycle, Action, Cycle, Device, Mode, Operation};
 use second::part::{Kind, Part};
 
-const BAD_STAGE: Device = Device {
-    mode: Mode::Read,
-    stage: 7,
-    kind: 0,
-    address: 0,
-    data: 0,
-    left: 0,
-    toggle: false,
-    recent: 0,
-};
+const BAD_STAGE: Device = Device { stage: 7, ..FRESH };
+
+/// A state with this operation running.
+fn with(running: Operation) -> Device {
+    Device { running, ..FRESH }
+}
 
 /// The answer of one cycle, which must change nothing if it is refused.
 fn answer(number: u32, lent: usize, device: Device, action: Action) -> u32 {
@@ -44,7 +40,7 @@ fn refusals_come_in_their_order() {
         address: 131_071,
         data: 256,
     };
-    let fresh = Device::default();
+    let fresh = FRESH;
     assert_eq!(answer(11, 3, BAD_STAGE, far_write), 1);
     assert_eq!(answer(1, 131_071, BAD_STAGE, far_write), 2);
     assert_eq!(answer(1, 131_073, fresh, far_write), 2);
@@ -63,10 +59,7 @@ fn refusals_come_in_their_order() {
 
 #[test]
 fn busy_or_not_does_not_matter_for_refusals() {
-    let busy = Device {
-        left: 1,
-        ..Device::default()
-    };
+    let busy = with(Operation { left: 1, ..NONE });
     let write = |address, data| Action::Write { address, data };
     assert_eq!(answer(1, 131_072, busy, write(131_072, 0)), 3);
     assert_eq!(answer(1, 131_072, busy, write(0, 256)), 4);
@@ -74,11 +67,7 @@ fn busy_or_not_does_not_matter_for_refusals() {
 
 #[test]
 fn refusal_5_comes_exactly_then() {
-    let busy = |kind: u32, left: u32| Device {
-        kind,
-        left,
-        ..Device::default()
-    };
+    let busy = |kind: u32, left: u32| with(Operation { kind, left, ..NONE });
     let number = |number: u32| (number, Part::get(number).unwrap());
     for (number, part) in (0..=10).map(number) {
         let lent = part.cells as usize;
@@ -97,37 +86,38 @@ fn refusal_5_comes_exactly_then() {
             assert_eq!(test(busy(kind, time + 1)), 5);
         }
         assert_eq!(test(busy(4, 1)), 5);
-        let stray = Device {
-            mode: Mode::Identification,
-            stage: 6,
+        let nothing = Operation {
             kind: 200,
             address: u32::MAX,
             data: 0xFFFF,
             left: 0,
             toggle: true,
+        };
+        let stray = Device {
+            mode: Mode::Identification,
+            stage: 6,
+            running: nothing,
             recent: 0,
+            turned: 1,
+            suspended: nothing,
         };
         assert_eq!(test(stray), 0);
         assert_eq!(test(Device { stage: 7, ..stray }), 5);
         let running = busy(1, 5);
+        let sector = running.running;
         let address = part.cells - 1;
-        assert_eq!(test(Device { address, ..running }), 0);
+        assert_eq!(test(with(Operation { address, ..sector })), 0);
         let address = part.cells;
-        assert_eq!(test(Device { address, ..running }), 5);
+        assert_eq!(test(with(Operation { address, ..sector })), 5);
         let data = 256;
         let wide = if part.width == 8 { 5 } else { 0 };
-        assert_eq!(test(Device { data, ..running }), wide);
+        assert_eq!(test(with(Operation { data, ..sector })), wide);
         let mode = Mode::Identification;
         assert_eq!(test(Device { mode, ..running }), 5);
-        assert_eq!(
-            test(Device {
-                stage: 1,
-                ..running
-            }),
-            5
-        );
+        let stage = 1;
+        assert_eq!(test(Device { stage, ..running }), 5);
         let toggle = true;
-        assert_eq!(test(Device { toggle, ..running }), 0);
+        assert_eq!(test(with(Operation { toggle, ..sector })), 0);
     }
 }
 
@@ -144,39 +134,30 @@ fn surplus_time_is_dropped_and_the_cycle_then_acts() {
     );
     assert_eq!(chip.cells[7], 0x1200);
     assert_eq!(chip.device.stage, 1);
-    assert_eq!(chip.device.left, 0);
+    assert!(!chip.busy());
 }
 
 #[test]
 fn a_start_keeps_its_last_write_and_an_end_leaves_nothing() {
     let mut chip = Chip::blank(4);
     chip.erase(70_001, 0xAB30);
-    let running = Device {
-        mode: Mode::Read,
-        stage: 0,
+    let running = with(Operation {
         kind: 1,
         address: 70_001,
         data: 0xAB30,
         left: 18_000,
         toggle: true,
-        recent: 0,
-    };
+    });
     assert_eq!(chip.device, running);
     chip.write(0x5555, 0xAA);
     assert_eq!(chip.device, running);
     chip.idle(17_999);
-    assert_eq!(chip.device.left, 1);
+    assert_eq!(chip.device.running.left, 1);
     chip.idle(1);
     let recent = 1;
-    assert_eq!(
-        chip.device,
-        Device {
-            recent,
-            ..Device::default()
-        }
-    );
+    assert_eq!(chip.device, Device { recent, ..FRESH });
     chip.idle(1);
-    assert_eq!(chip.device, Device::default());
+    assert_eq!(chip.device, FRESH);
 }
 
 #[test]
@@ -218,7 +199,7 @@ fn identification_and_the_ways_out_of_it() {
         assert_eq!(chip.device.mode, Mode::Identification);
         assert_eq!(chip.read(0, 0), 0xBF);
         chip.write(u2, 0x55);
-        assert_eq!(chip.device, Device::default());
+        assert_eq!(chip.device, FRESH);
         // The command F0H, a lone F0H, a start, a cut.
         chip.command(0x90);
         chip.command(0xF0);
@@ -237,7 +218,8 @@ fn identification_and_the_ways_out_of_it() {
         // Armed, F0H is data.
         chip.command(0xA0);
         chip.write(u1, 0xF0);
-        assert_eq!((chip.device.kind, chip.device.data), (0, 0xF0));
+        let running = chip.device.running;
+        assert_eq!((running.kind, running.data), (0, 0xF0));
         assert!(chip.busy());
     }
 }
@@ -245,15 +227,20 @@ fn identification_and_the_ways_out_of_it() {
 #[test]
 fn an_ignored_command_leaves_stray_fields_alone() {
     let mut chip = Chip::blank(0);
-    chip.device = Device {
-        mode: Mode::Identification,
-        stage: 3,
+    let nothing = Operation {
         kind: 9,
         address: 77,
         data: 88,
         left: 0,
         toggle: true,
+    };
+    chip.device = Device {
+        mode: Mode::Identification,
+        stage: 3,
+        running: nothing,
         recent: 1,
+        turned: 1,
+        suspended: nothing,
     };
     let stray = chip.device;
     chip.wp_high = false;
@@ -283,7 +270,7 @@ fn protection_by_kind_and_sampled_at_the_last_write() {
             chip.unlock();
             chip.wp_high = false;
             chip.write(inside, code);
-            assert_eq!(chip.device, Device::default());
+            assert_eq!(chip.device, FRESH);
             chip.command(0x80);
             chip.unlock();
             chip.wp_high = true;
@@ -323,14 +310,14 @@ fn which_code_erases_what() {
         for (code, kind) in [0x30, 0x50].into_iter().zip(kinds) {
             for address in [u1, 5_000] {
                 chip.erase(address, code);
-                assert_eq!(chip.busy().then_some(chip.device.kind), kind);
+                assert_eq!(chip.busy().then_some(chip.device.running.kind), kind);
                 chip.cut(0, 0xFFFF);
             }
         }
         chip.erase(u1 ^ 1, 0x10);
         assert!(!chip.busy());
         chip.erase(u1, 0x10);
-        assert_eq!((chip.busy(), chip.device.kind), (true, 3));
+        assert_eq!((chip.busy(), chip.device.running.kind), (true, 3));
     }
 }
 

@@ -1,9 +1,9 @@
 //! The eleven marked cases of document 01, with the figures of document 02's
 //! first wish in cases 10 and 11.
 
-use crate::chip::Chip;
+use crate::chip::{Chip, FRESH};
 use second::bill;
-use second::cycle::{Device, Mode};
+use second::cycle::Mode;
 use second::job::{load, Bill, Job};
 
 /// The addresses whose cells changed from 0 to blank.
@@ -71,7 +71,7 @@ fn case_5_a_broken_sequence_arms_nothing() {
         chip.write(u1, 0xAA);
         chip.write(u2, 0x55);
         chip.write(u1, 0xA0);
-        assert_eq!(chip.device, Device::default());
+        assert_eq!(chip.device, FRESH);
         chip.write(100, 0x12);
         assert!(!chip.busy());
     }
@@ -98,7 +98,7 @@ fn case_7_bench_protection() {
     let mut chip = Chip::blank(0);
     chip.wp_high = false;
     chip.program(4_095, 0);
-    assert_eq!(chip.device, Device::default());
+    assert_eq!(chip.device, FRESH);
     chip.program(4_096, 0);
     assert!(chip.busy());
 }

@@ -74,6 +74,18 @@ fn protected_blocks() {
 }
 
 #[test]
+fn parts_7_to_10_suspend_sector_and_block_erases() {
+    for number in 0..=10 {
+        let part = Part::get(number).unwrap();
+        assert_eq!(part.suspends, number >= 7);
+        for kind in Kind::ALL {
+            let held = matches!(kind, Kind::Sector | Kind::Block);
+            assert_eq!(part.can_suspend(kind), number >= 7 && held);
+        }
+    }
+}
+
+#[test]
 fn polls_are_rounded_up() {
     let part = Part::get(9).unwrap();
     assert_eq!(part.polls(Kind::Program, 5), 2);
