@@ -1,4 +1,5 @@
-//! What document 01 says, as tests of this program.
+//! What document 01 says, and wishes 1 and 2 of document 02, as tests of this
+//! program.
 
 mod chip;
 mod completions;
@@ -10,3 +11,4 @@ mod loads;
 mod marked;
 mod parts;
 mod recorded;
+mod suspends;
