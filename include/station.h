@@ -223,16 +223,23 @@ enum station_mode {
     STATION_IDENTIFICATION = 1
 };
 
+/* An operation: the command, its address and data, the microseconds left (0: there is none), and what bit 6 shows at the next read while it runs: 0 or 1. */
+struct station_operation {
+    uint32_t kind;
+    uint32_t address;
+    uint16_t data;
+    uint32_t left;
+    uint32_t toggle;
+};
+
 /* A device: all of a chip but its cells. */
 struct station_device {
     uint32_t mode;
-    uint32_t stage; /* of a sequence of writes: 0 none begun, to 6 */
-    uint32_t kind;  /* the command that runs while left is not 0; its address and data */
-    uint32_t address;
-    uint16_t data;
-    uint32_t left;   /* microseconds until it ends; 0: nothing runs */
-    uint32_t toggle; /* what bit 6 shows at the next read while it runs: 0 or 1 */
+    uint32_t stage;  /* of a sequence of writes: 0 none begun, to 6 */
     uint32_t recent; /* 1 while a completion is 0 microseconds old, else 0 */
+    uint32_t turned; /* 1 where the next read that shows bit 2 shows it as 0, else 0 */
+    struct station_operation running;
+    struct station_operation suspended; /* an erase, on parts 7 to 10 */
 };
 
 /* A reply: STATION_TAKEN or the refusal, the value read (0 but for a read), the device afterwards. */

@@ -15,7 +15,7 @@ enum size {
     BENCH = 8192,
     SEEN = 4096,
     WRITES = 6,
-    NUMBERS = 24 /* of a line, and some more */
+    NUMBERS = 30 /* of a line, and some more */
 };
 
 /* What the commands work on. */
@@ -125,22 +125,36 @@ static bool hash_cells(struct held *held, const uint64_t *n)
 
 /* ---- Bus cycles */
 
+static void put_operation(const struct station_operation *operation)
+{
+    put(operation->kind);
+    put(operation->address);
+    put(operation->data);
+    put(operation->left);
+    put(operation->toggle);
+}
+
 static void put_device(const struct station_device *device)
 {
     put(device->mode);
     put(device->stage);
-    put(device->kind);
-    put(device->address);
-    put(device->data);
-    put(device->left);
-    put(device->toggle);
+    put_operation(&device->running);
     put(device->recent);
+    put(device->turned);
+    put_operation(&device->suspended);
+}
+
+/* An operation of five numbers. */
+static struct station_operation operation_of(const uint64_t *n)
+{
+    const struct station_operation operation = {(uint32_t)n[0], (uint32_t)n[1], (uint16_t)n[2], (uint32_t)n[3], (uint32_t)n[4]};
+    return operation;
 }
 
 static bool set_device(struct held *held, const uint64_t *n)
 {
-    const struct station_device device = {(uint32_t)n[1], (uint32_t)n[2], (uint32_t)n[3], (uint32_t)n[4],
-                                          (uint16_t)n[5], (uint32_t)n[6], (uint32_t)n[7], (uint32_t)n[8]};
+    const struct station_device device = {(uint32_t)n[1], (uint32_t)n[2],      (uint32_t)n[8],
+                                          (uint32_t)n[9], operation_of(n + 3), operation_of(n + 10)};
     held->device = device;
     return true;
 }
@@ -496,12 +510,12 @@ static const struct {
     uint64_t number;
     int follow;
     command act;
-} commands[] = {{0, 1, mark},         {10, 5, new_chip},   {11, 5, fill_cells}, {12, 2, set_cell},   {13, 1, show_cell},
-                {14, 2, hash_cells},  {15, 2, lend},       {20, 8, set_device}, {21, 3, read_cycle}, {22, 4, write_cycle},
-                {23, 2, idle_cycle},  {24, 3, cut_cycle},  {30, 4, all_writes}, {31, 5, one_write},  {32, 5, start},
-                {33, 7, set_driver},  {34, 1, step},       {35, 2, run},        {40, 2, figure},     {50, 4, new_image},
-                {51, 5, fill_image},  {52, 2, set_value},  {53, 4, copy_cells}, {54, 3, load},       {55, 4, load_first},
-                {60, 3, new_file},    {61, 3, set_bytes},  {62, 0, parse},      {63, 0, bill}};
+} commands[] = {{0, 1, mark},         {10, 5, new_chip},   {11, 5, fill_cells},  {12, 2, set_cell},   {13, 1, show_cell},
+                {14, 2, hash_cells},  {15, 2, lend},       {20, 14, set_device}, {21, 3, read_cycle}, {22, 4, write_cycle},
+                {23, 2, idle_cycle},  {24, 3, cut_cycle},  {30, 4, all_writes},  {31, 5, one_write},  {32, 5, start},
+                {33, 7, set_driver},  {34, 1, step},       {35, 2, run},         {40, 2, figure},     {50, 4, new_image},
+                {51, 5, fill_image},  {52, 2, set_value},  {53, 4, copy_cells},  {54, 3, load},       {55, 4, load_first},
+                {60, 3, new_file},    {61, 3, set_bytes},  {62, 0, parse},       {63, 0, bill}};
 
 /* The numbers of a line, and how many; the rest are 0. */
 static int numbers_of(const char *line, uint64_t n[NUMBERS])
