@@ -1,25 +1,26 @@
 -- A device crosses to C and back: its numbers are read as that device, and a refused cycle hands back the numbers as they came.
-use Prim.Native.Nat.{ℕ, zero, suc, _<_, _≤_}
+use Prim.Native.Nat.{ℕ, zero, suc, _<_}
 use mathlib.Core.Path.{_≡_, refl}
 use mathlib.Core.Bool.{Bool, true, false}
 use mathlib.Core.List.{List}
 use native.Mathlib.Omega.{arith}
-use lib.Dec.{eqb}
+use lib.Dec.{eqb, ltb}
 use lib.ListN.{length}
-use borrow.Author.Tests.{eq-eqb, ne-eqb, eqb-false, lt-ltb, le-ltb}
+use borrow.Author.Tests.{eq-eqb, ne-eqb, eqb-false, lt-ltb, ltb-false, le-leb, lt-leb}
 use Rattle.parts.specs.Names.{WRONG-CELLS, BAD-STATE}
 use Rattle.parts.specs.Pick.{_unless_, _else_, _orElse_}
 use Rattle.parts.specs.Table.{rowOf, partRefusal}
+use Rattle.parts.proofs.Every.{pick-same}
 use Rattle.commands.specs.declared.effect.Mode.{Mode}
 use Rattle.commands.specs.declared.effect.Mode.the-variants.{ReadMode, Identification}
 use Rattle.chip.specs.declared.device.Device.{Device}
 use Rattle.chip.specs.declared.cycle.Action.{Action}
 use Rattle.chip.specs.declared.cycle.Cycle.{Cycle}
-use Rattle.chip.specs.Device.{operation, core, device, stageInRange, deviceInRange}
+use Rattle.chip.specs.Device.{stageInRange, deviceInRange}
 use Rattle.chip.specs.Cycle.{chip, afterTime, acceptedOf, cycleOf, cycleRefusal}
 use Rattle.chip.proofs.Cases.{acted-answers}
 use Rattle.bus.specs.declared.cycle.DeviceNumbers.{DeviceNumbers}
-use Rattle.bus.specs.Cycle.{high, bitNumber, deviceNumbers, deviceOf, noState, replyNumbers, cycledNumbers}
+use Rattle.bus.specs.Cycle.{high, modeNumber, modeAt, bitNumber, deviceNumbers, hasBits, deviceOf, noState, replyNumbers, cycledNumbers}
 
 -- ---- a level: its number is read as that level
 pub level-back : (b : Bool) → high (bitNumber b) ≡ b
@@ -27,36 +28,61 @@ level-back true = refl
 level-back false = refl
 
 -- ---- the device
-device-mode : (m : Mode) (k a x l : ℕ) (t n : Bool) (s : ℕ)
-    → deviceOf (deviceNumbers (device (core m (operation k a x l t) n) s)) ≡ device (core m (operation k a x l t) n) s
-unfolding deviceOf
-device-mode ReadMode k a x l true true s = refl
-device-mode ReadMode k a x l true false s = refl
-device-mode ReadMode k a x l false true s = refl
-device-mode ReadMode k a x l false false s = refl
-device-mode Identification k a x l true true s = refl
-device-mode Identification k a x l true false s = refl
-device-mode Identification k a x l false true s = refl
-device-mode Identification k a x l false false s = refl
+bit-back : (b : Bool) → eqb (bitNumber b) 1 ≡ b
+bit-back true = refl
+bit-back false = refl
+
+bit-small : (b : Bool) → ltb 1 (bitNumber b) ≡ false
+bit-small true = refl
+bit-small false = refl
+
+mode-back : (m : Mode) → modeAt (modeNumber m) ≡ m
+mode-back ReadMode = refl
+mode-back Identification = refl
+
+mode-small : (m : Mode) → ltb 1 (modeNumber m) ≡ false
+mode-small ReadMode = refl
+mode-small Identification = refl
 
 -- the numbers of a device are read as that device
 pub device-back : (d : Device) → deviceOf (deviceNumbers d) ≡ d
+unfolding deviceOf hasBits
 device-back d =
-    let o = d .core .running in
-    device-mode (d .core .mode) (o .kind) (o .address) (o .«data») (o .left) (o .toggle) (d .core .recent) (d .stage)
+    let k = d .core in
+    rw (
+      mode-small (k .mode),
+      bit-small (k .recent),
+      bit-small (k .turned),
+      bit-small (k .running .toggle),
+      le-leb (bitNumber (k .suspended .toggle)) 1 (ltb-false 1 (bitNumber (k .suspended .toggle)) (bit-small (k .suspended .toggle))),
+      mode-back (k .mode),
+      bit-back (k .recent),
+      bit-back (k .turned),
+      bit-back (k .running .toggle),
+      bit-back (k .suspended .toggle),
+    )
 
--- a mode, a toggle or a recent completion above 1 is no state
-pub bad-mode : (n : DeviceNumbers) → 1 < n .mode → deviceOf n ≡ noState
-unfolding deviceOf
-bad-mode n h = simp (lt-ltb _ _ h)
+-- a mode, a recent completion, a turned bit 2 or a toggle above 1 is no state
+module _ (n : DeviceNumbers) where
+  pub bad-mode : 1 < n .mode → deviceOf n ≡ noState
+  unfolding deviceOf hasBits
+  bad-mode h = simp (lt-ltb _ _ h)
 
-pub bad-toggle : (n : DeviceNumbers) → n .mode ≤ 1 → 1 < n .toggle → deviceOf n ≡ noState
-unfolding deviceOf
-bad-toggle n m h = simp (le-ltb _ _ m, lt-ltb _ _ h)
+  pub bad-recent : 1 < n .recent → deviceOf n ≡ noState
+  unfolding deviceOf hasBits
+  bad-recent h = simp (lt-ltb _ _ h, pick-same)
 
-pub bad-recent : (n : DeviceNumbers) → n .mode ≤ 1 → n .toggle ≤ 1 → 1 < n .recent → deviceOf n ≡ noState
-unfolding deviceOf
-bad-recent n m t h = simp (le-ltb _ _ m, le-ltb _ _ t, lt-ltb _ _ h)
+  pub bad-turned : 1 < n .turned → deviceOf n ≡ noState
+  unfolding deviceOf hasBits
+  bad-turned h = simp (lt-ltb _ _ h, pick-same)
+
+  pub bad-toggle : 1 < n .running .toggle → deviceOf n ≡ noState
+  unfolding deviceOf hasBits
+  bad-toggle h = simp (lt-ltb _ _ h, pick-same)
+
+  pub bad-suspended-toggle : 1 < n .suspended .toggle → deviceOf n ≡ noState
+  unfolding deviceOf hasBits
+  bad-suspended-toggle h = simp (lt-leb _ _ h, pick-same)
 
 -- numbers that are no state: 1 and 2 come first, then 5
 pub no-device : (part lent : ℕ) (n : DeviceNumbers) (a : Action) → deviceOf n ≡ noState

@@ -1,16 +1,18 @@
 -- The bus cycle as plain numbers: those of a device and of a reply, and the device of any numbers.
 use Prim.Native.Nat.{ℕ}
-use mathlib.Core.Bool.{Bool}
+use mathlib.Core.Bool.{Bool, false}
 use mathlib.Core.List.{List}
-use lib.Dec.{eqb, ltb}
-use Rattle.parts.specs.Pick.{pick, _when_, _else_}
+use lib.Dec.{eqb, leb, ltb}
+use Rattle.parts.specs.Pick.{pick, _when_, _unless_, _else_}
 use Rattle.commands.specs.declared.effect.Mode.{Mode}
 use Rattle.commands.specs.declared.effect.Mode.the-variants.{ReadMode, Identification}
+use Rattle.chip.specs.declared.device.Operation.{Operation}
 use Rattle.chip.specs.declared.device.Device.{Device}
 use Rattle.chip.specs.declared.cycle.Action.{Action}
 use Rattle.chip.specs.declared.cycle.Reply.{Reply}
 use Rattle.chip.specs.Device.{operation, core, device, freshCore}
 use Rattle.chip.specs.Cycle.{Outcome, cycle, cycleOf}
+use Rattle.bus.specs.declared.cycle.OperationNumbers.{OperationNumbers}
 use Rattle.bus.specs.declared.cycle.DeviceNumbers.{DeviceNumbers}
 use Rattle.bus.specs.declared.cycle.ReplyNumbers.{ReplyNumbers}
 
@@ -37,9 +39,20 @@ abbrev pub modeAt : ℕ → Mode
 modeAt n = pick (eqb n READ-MODE) ReadMode Identification
 
 -- ---- the device
--- what a bit shows, a level, or whether a completion is recent
+-- what a bit shows, a level, whether a completion is recent, or whether bit 2 has turned
 abbrev pub bitNumber : Bool → ℕ
 bitNumber t = pick t 1 0
+
+-- the numbers of an operation
+abbrev pub operationNumbers : Operation → OperationNumbers
+operationNumbers o =
+    record {
+      kind = o .kind;
+      address = o .address;
+      «data» = o .«data»;
+      left = o .left;
+      toggle = bitNumber (o .toggle);
+    }
 
 -- the numbers of a device
 abbrev pub deviceNumbers : Device → DeviceNumbers
@@ -47,13 +60,15 @@ deviceNumbers d =
     record {
       mode = modeNumber (d .core .mode);
       stage = d .stage;
-      kind = d .core .running .kind;
-      address = d .core .running .address;
-      «data» = d .core .running .«data»;
-      left = d .core .running .left;
-      toggle = bitNumber (d .core .running .toggle);
       recent = bitNumber (d .core .recent);
+      turned = bitNumber (d .core .turned);
+      running = operationNumbers (d .core .running);
+      suspended = operationNumbers (d .core .suspended);
     }
+
+-- the operation of some numbers
+abbrev pub operationOf : OperationNumbers → Operation
+operationOf n = operation (n .kind) (n .address) (n .«data») (n .left) (eqb (n .toggle) 1)
 
 -- a stage past the seven of a write sequence
 abbrev pub NO-STAGE : ℕ
@@ -63,13 +78,20 @@ NO-STAGE = 7
 abbrev pub noState : Device
 noState = device freshCore NO-STAGE
 
--- a mode past the last, or a toggle or a recent completion above 1, is no state
+-- the mode is none past the last, and recent, turned and both toggles are 0 or 1
+unfoldable pub hasBits : DeviceNumbers → Bool
+hasBits n =
+    false when ltb IDENTIFICATION (n .mode)
+    else false when ltb 1 (n .recent)
+    else false when ltb 1 (n .turned)
+    else false when ltb 1 (n .running .toggle)
+    else leb (n .suspended .toggle) 1
+
+-- other numbers are no state
 unfoldable pub deviceOf : DeviceNumbers → Device
 deviceOf n =
-    noState when ltb IDENTIFICATION (n .mode)
-    else noState when ltb 1 (n .toggle)
-    else noState when ltb 1 (n .recent)
-    else device (core (modeAt (n .mode)) (operation (n .kind) (n .address) (n .«data») (n .left) (eqb (n .toggle) 1)) (eqb (n .recent) 1)) (n .stage)
+    noState unless hasBits n
+    else device (core (modeAt (n .mode)) (eqb (n .recent) 1) (eqb (n .turned) 1) (operationOf (n .running)) (operationOf (n .suspended))) (n .stage)
 
 -- ---- a cycle
 -- a refused cycle hands back the numbers as they came

@@ -7,7 +7,7 @@ use chip::Operation;
 use chip::Reply;
 use commands::Mode;
 ghost use mathlib.Core.Path.{_≡_};
-ghost use Rattle.bus.specs.Cycle.{cycledOf, deviceNumbers, deviceOf, modeAt, modeNumber, noState, replyNumbers, bitNumber};
+ghost use Rattle.bus.specs.Cycle.{bitNumber, cycledOf, deviceNumbers, deviceOf, hasBits, modeAt, modeNumber, noState, operationNumbers, operationOf, replyNumbers};
 
 // ---- the numbers of the modes
 pub const READ_MODE: u32 = 0;
@@ -17,17 +17,26 @@ const IDENTIFICATION: u32 = 1;
 // A stage past the seven of a write sequence.
 const NO_STAGE: u32 = 7;
 
-// A device as numbers: mode 0 read, 1 identification; toggle 0 or 1; recent 1 while a completion is 0 µs old, else 0.
+// An operation as numbers: toggle 0 or 1.
 #[repr(C)]
-pub struct DeviceNumbers {
-    pub mode: u32,
-    pub stage: u32,
+pub struct OperationNumbers {
     pub kind: u32,
     pub address: u32,
     pub data: u16,
     pub left: u32,
     pub toggle: u32,
+}
+
+// A device as numbers: mode 0 read, 1 identification; recent 1 while a completion is 0 µs old, else 0; turned 1 where the next
+// read that shows bit 2 shows it as 0, else 0.
+#[repr(C)]
+pub struct DeviceNumbers {
+    pub mode: u32,
+    pub stage: u32,
     pub recent: u32,
+    pub turned: u32,
+    pub running: OperationNumbers,
+    pub suspended: OperationNumbers,
 }
 
 // The answer, 0 or a refusal; the value read; the device afterwards.
@@ -58,7 +67,7 @@ fn mode_at(n: u32) -> Mode
     Mode::Identification
 }
 
-// The number of what a bit shows, of a level, or of whether a completion is recent.
+// The number of what a bit shows, of a level, of whether a completion is recent, or of whether bit 2 has turned.
 fn bit_number(bit: bool) -> u32
     ensures { λ r. ⌜ r ≡ bitNumber bit ⌝ }
 {
@@ -80,52 +89,82 @@ fn no_state() -> Device
     }
 }
 
+// The numbers of an operation.
+fn operation_numbers(o: Operation) -> OperationNumbers
+    ensures { λ r. ⌜ r ≡ operationNumbers o ⌝ }
+{
+    OperationNumbers {
+        kind: o.kind,
+        address: o.address,
+        data: o.data,
+        left: o.left,
+        toggle: bit_number(o.toggle),
+    }
+}
+
 // The numbers of a device.
 fn device_numbers(d: Device) -> DeviceNumbers
     ensures { λ r. ⌜ r ≡ deviceNumbers d ⌝ }
 {
     let core = d.core;
     let mode = core.mode;
-    let o = core.running;
     DeviceNumbers {
         mode: mode_number(mode),
         stage: d.stage,
-        kind: o.kind,
-        address: o.address,
-        data: o.data,
-        left: o.left,
-        toggle: bit_number(o.toggle),
         recent: bit_number(core.recent),
+        turned: bit_number(core.turned),
+        running: operation_numbers(core.running),
+        suspended: operation_numbers(core.suspended),
     }
+}
+
+// The operation of some numbers.
+fn operation_of(n: OperationNumbers) -> Operation
+    ensures { λ r. ⌜ r ≡ operationOf n ⌝ }
+{
+    Operation {
+        kind: n.kind,
+        address: n.address,
+        left: n.left,
+        data: n.data,
+        toggle: n.toggle == 1,
+    }
+}
+
+// Whether the numbers are those of a mode and of bits.
+fn has_bits(n: DeviceNumbers) -> bool
+    ensures { λ r. ⌜ r ≡ hasBits n ⌝ }
+{
+    let running = n.running;
+    let suspended = n.suspended;
+    if IDENTIFICATION < n.mode {
+        return false;
+    }
+    if 1 < n.recent {
+        return false;
+    }
+    if 1 < n.turned {
+        return false;
+    }
+    if 1 < running.toggle {
+        return false;
+    }
+    suspended.toggle <= 1
 }
 
 // The device of some numbers.
 fn device_of(n: DeviceNumbers) -> Device
     ensures { λ r. ⌜ r ≡ deviceOf n ⌝ }
 {
-    let mode = n.mode;
-    let toggle = n.toggle;
-    let recent = n.recent;
-    if IDENTIFICATION < mode {
+    if !has_bits(n) {
         return no_state();
     }
-    if 1 < toggle {
-        return no_state();
-    }
-    if 1 < recent {
-        return no_state();
-    }
-    let running = Operation {
-        kind: n.kind,
-        address: n.address,
-        left: n.left,
-        data: n.data,
-        toggle: toggle == 1,
-    };
     let core = Core {
-        mode: mode_at(mode),
-        running,
-        recent: recent == 1,
+        mode: mode_at(n.mode),
+        recent: n.recent == 1,
+        turned: n.turned == 1,
+        running: operation_of(n.running),
+        suspended: operation_of(n.suspended),
     };
     Device {
         core,

@@ -2,6 +2,7 @@
 mod cycle;
 
 pub use cycle::DeviceNumbers;
+pub use cycle::OperationNumbers;
 pub use cycle::READ_MODE;
 pub use cycle::ReplyNumbers;
 pub use cycle::cycled;

@@ -1,7 +1,7 @@
 -- What is known of an accepted cycle and of a state in range.
 use Prim.Native.Nat.{ℕ, _+_, _≤_, _<_}
-use mathlib.Core.Path.{_≡_, refl}
-use mathlib.Core.Bool.{true, false}
+use mathlib.Core.Path.{_≡_, refl, sym, _∙_}
+use mathlib.Core.Bool.{Bool, true, false}
 use native.Mathlib.Omega.{arith}
 use borrow.Author.Tests.{ltb-true, ltb-false, lt-ltb, le-ltb, le-leb, eqb-true, eq-eqb}
 use lib.Dec.{eqb, ltb}
@@ -23,7 +23,7 @@ use Rattle.chip.specs.declared.device.Core.{Core}
 use Rattle.chip.specs.declared.device.Device.{Device}
 use Rattle.chip.specs.declared.cycle.Action.{Action}
 use Rattle.chip.specs.declared.cycle.Action.the-variants.{Read, Write}
-use Rattle.chip.specs.Device.{agedBy, device, busy, reads, validOperation, coreInRange, stageInRange, deviceInRange}
+use Rattle.chip.specs.Device.{restarted, agedBy, device, busy, held, reads, suspendable, barred, validOperation, runsInRange, heldInRange, coreInRange, stageInRange, deviceInRange}
 use Rattle.chip.specs.Operation.{cellsOf}
 use Rattle.chip.specs.Cycle.{actionRefusal, cycleRefusal}
 use Rattle.chip.specs.Needs.{InWords, RunsInside}
@@ -55,7 +55,8 @@ pub write-there : (r : Row) (a x : ℕ) → actionRefusal r (Write a x) ≡ 0 �
 unfolding actionRefusal
 write-there r a x e = let w = zero-left _ _ 2 e in (ltb-true _ _ (w .0), zero-left _ 0 3 (w .1) .0)
 
--- ---- a core in range with an operation pending
+-- ---- a core in range
+-- with an operation that runs
 pub record Valid (r : Row) (k : Core) : Type 0 where
   pub command : hasCommand r (k .running .kind) ≡ true
   pub time : k .running .left ≤ timeOf r (k .running .kind)
@@ -63,30 +64,90 @@ pub record Valid (r : Row) (k : Core) : Type 0 where
   pub fits : fitsIn (r .width) (k .running .«data») ≡ true
   pub mode : k .mode ≡ ReadMode
   pub old : k .recent ≡ false
+  pub free : barred r (k .suspended) (k .running .kind) (k .running .address) ≡ false
+
+-- with what runs and what is suspended, each where there is one
+pub record Ranged (r : Row) (k : Core) : Type 0 where
+  pub runs : busy k ≡ true → Valid r k
+  pub holds : held k ≡ true → heldInRange r (k .suspended) ≡ true
 
 pub read-mode : (m : Mode) → reads m ≡ true → m ≡ ReadMode
 read-mode ReadMode e = refl
 read-mode Identification e = apart e
 
-pub busy-valid : (r : Row) (k : Core) → coreInRange r k ≡ true → busy k ≡ true → Valid r k
-unfolding coreInRange validOperation
-busy-valid r k e b =
-    let f = unless (k .recent) (pick (reads (k .mode)) (validOperation r (k .running)) false)
-    (given (busy k) (pick (k .recent) false (pick (reads (k .mode)) (validOperation r (k .running)) false)) b e) in
-    let g = both _ _ (f .1) in
-    let h = both _ _ (g .1) in
+-- a valid operation, by its parts
+valid-parts : (r : Row) (o : Operation) → validOperation r o ≡ true
+    → (hasCommand r (o .kind) ≡ true) × ((o .left ≤ timeOf r (o .kind)) × ((o .address < r .cells) × (fitsIn (r .width) (o .«data») ≡ true)))
+unfolding validOperation
+valid-parts r o e =
+    let h = both _ _ e in
     let i = unless _ _ (h .1) in
     let j = both _ _ (i .1) in
-    record { command = h .0; time = ltb-false _ _ (i .0); there = ltb-true _ _ (j .0); fits = j .1; mode = read-mode (k .mode) (g .0); old = f .0 }
+    (h .0, (ltb-false _ _ (i .0), (ltb-true _ _ (j .0), j .1)))
 
-pub valid-range : (r : Row) (k : Core) → Valid r k → coreInRange r k ≡ true
-unfolding coreInRange validOperation
-valid-range r k v = simp (v .old, v .mode, v .command, le-ltb _ _ (v .time), lt-ltb _ _ (v .there), v .fits, pick-same)
+parts-valid : (r : Row) (o : Operation) → hasCommand r (o .kind) ≡ true → o .left ≤ timeOf r (o .kind) → o .address < r .cells → fitsIn (r .width) (o .«data») ≡ true
+    → validOperation r o ≡ true
+unfolding validOperation
+parts-valid r o c t a f = simp (c, le-ltb _ _ t, lt-ltb _ _ a) f
 
--- at rest any core is in range
-pub rest-range : (r : Row) (k : Core) → busy k ≡ false → coreInRange r k ≡ true
+runs-valid : (r : Row) (k : Core) → runsInRange r k ≡ true → Valid r k
+unfolding runsInRange
+runs-valid r k e =
+    let f = unless (k .recent) _ e in
+    let g = both (reads (k .mode)) _ (f .1) in
+    let h = unless (barred r (k .suspended) (k .running .kind) (k .running .address)) (validOperation r (k .running)) (g .1) in
+    let w = valid-parts r (k .running) (h .1) in
+    record { command = w .0; time = w .1 .0; there = w .1 .1 .0; fits = w .1 .1 .1; mode = read-mode (k .mode) (g .0); old = f .0; free = h .0 }
+
+pub ranged : (r : Row) (k : Core) → coreInRange r k ≡ true → Ranged r k
 unfolding coreInRange
-rest-range r k b = rw b
+ranged r k e =
+    let w = both (pick (busy k) (runsInRange r k) true) (pick (held k) (heldInRange r (k .suspended)) true) e in
+    record { runs = λ b. runs-valid r k (given (busy k) (runsInRange r k) b (w .0)); holds = λ b. given (held k) (heldInRange r (k .suspended)) b (w .1) }
+
+pub core-range : (r : Row) (k : Core) → Ranged r k → coreInRange r k ≡ true
+unfolding coreInRange runsInRange
+core-range r k w = rw (where-so (busy k) _ runs, where-so (held k) _ (w .holds))
+  where
+    where-so : (b c : Bool) → (b ≡ true → c ≡ true) → pick b c true ≡ true
+    where-so true c f = f refl
+    where-so false c f = refl
+
+    runs : busy k ≡ true → runsInRange r k ≡ true
+    runs b = let v = w .runs b in simp (v .old, v .mode, v .free) (parts-valid r (k .running) (v .command) (v .time) (v .there) (v .fits))
+
+-- what is suspended is valid, and can be
+pub held-valid : (r : Row) (s : Operation) → heldInRange r s ≡ true → (suspendable r (s .kind) ≡ true) × (validOperation r s ≡ true)
+unfolding heldInRange
+held-valid r s e = both (suspendable r (s .kind)) (validOperation r s) e
+
+pub held-fits : (r : Row) (s : Operation) → heldInRange r s ≡ true → fitsIn (r .width) (s .«data») ≡ true
+held-fits r s e = valid-parts r s (held-valid r s e .1) .1 .1 .1
+
+-- what runs is valid whatever bit 6 shows next
+pub runs-on-valid : (r : Row) (k : Core) → Valid r k → validOperation r (restarted (k .running)) ≡ true
+runs-on-valid r k v = parts-valid r (restarted (k .running)) (v .command) (v .time) (v .there) (v .fits)
+
+-- and a valid operation runs in read mode with no completion 0 µs old and nothing that bars it
+pub valid-from : (r : Row) (k : Core) → k .mode ≡ ReadMode → k .recent ≡ false → barred r (k .suspended) (k .running .kind) (k .running .address) ≡ false
+    → validOperation r (k .running) ≡ true → Valid r k
+valid-from r k m n f e =
+    let w = valid-parts r (k .running) e in
+    record { command = w .0; time = w .1 .0; there = w .1 .1 .0; fits = w .1 .1 .1; mode = m; old = n; free = f }
+
+pub busy-valid : (r : Row) (k : Core) → coreInRange r k ≡ true → busy k ≡ true → Valid r k
+busy-valid r k e b = ranged r k e .runs b
+
+-- with an operation that runs and nothing suspended
+pub valid-range : (r : Row) (k : Core) → held k ≡ false → Valid r k → coreInRange r k ≡ true
+valid-range r k n v = core-range r k (record { runs = λ _. v; holds = λ h. apart (sym n ∙ h) })
+
+-- at rest any core is in range whose suspended erase is
+pub rests-range : (r : Row) (k : Core) → busy k ≡ false → (held k ≡ true → heldInRange r (k .suspended) ≡ true) → coreInRange r k ≡ true
+rests-range r k b h = core-range r k (record { runs = λ e. apart (sym b ∙ e); holds = h })
+
+pub rest-range : (r : Row) (k : Core) → busy k ≡ false → held k ≡ false → coreInRange r k ≡ true
+rest-range r k b n = rests-range r k b (λ h. apart (sym n ∙ h))
 
 -- ---- a device in range: its stage, and its core
 pub in-range : (r : Row) (k : Core) (s : ℕ) → stageInRange k s ≡ true → coreInRange r k ≡ true → deviceInRange r (device k s) ≡ true
@@ -134,4 +195,8 @@ inside-cells n k o c t =
 
 pub runs-inside : (n : ℕ) → partRefusal n ≡ 0 → (k : Core) (m : ℕ) → coreInRange (rowOf n) k ≡ true → m ≡ rowOf n .cells → RunsInside (rowOf n) k m
 runs-inside n known k m e w =
-    record { inside = λ b. let v = busy-valid (rowOf n) k e b in omega (arith, inside-cells n known (k .running) (v .command) (v .there)) }
+    record {
+      inside = λ b. let v = ranged (rowOf n) k e .runs b in omega (arith, inside-cells n known (k .running) (v .command) (v .there));
+      held-inside = λ h. let v = valid-parts (rowOf n) (k .suspended) (held-valid (rowOf n) (k .suspended) (ranged (rowOf n) k e .holds h) .1) in
+          omega (arith, inside-cells n known (k .suspended) (v .0) (v .1 .1 .0));
+    }

@@ -1,6 +1,6 @@
 -- What a cycle does, case by case: callers cite these laws and not the definition's text.
 use Prim.Native.Nat.{ℕ, _+_, _-_, _*_, _/_, _%_, _^_, _≤_, _<_}
-use mathlib.Core.Path.{_≡_, refl, ap, _∙_}
+use mathlib.Core.Path.{_≡_, refl, sym, ap, _∙_}
 use mathlib.Core.Bool.{Bool, true, false}
 use mathlib.Core.List.{List}
 use native.Mathlib.Omega.{arith}
@@ -13,7 +13,7 @@ use Rattle.parts.specs.Pick.{pick}
 use Rattle.parts.specs.Width.{valueOf, fitsIn}
 use Rattle.parts.specs.Table.{rowOf, partRefusal}
 use Rattle.parts.specs.declared.table.Row.{Row}
-use Rattle.parts.proofs.Every.{split}
+use Rattle.parts.proofs.Every.{apart, split}
 use Rattle.parts.proofs.Values.{value-lt}
 use Rattle.parts.proofs.Sound.{width-most, device-word}
 use Rattle.commands.specs.declared.effect.Mode.{Mode}
@@ -24,14 +24,15 @@ use Rattle.chip.specs.declared.cycle.Action.{Action}
 use Rattle.chip.specs.declared.cycle.Action.the-variants.{Read, Write, Idle, Cut}
 use Rattle.chip.specs.declared.cycle.Cycle.{Cycle}
 use Rattle.chip.specs.declared.cycle.Shown.{Shown}
-use Rattle.chip.specs.Device.{withLeft, toggled, withRunning, withRecent, atRest, agedBy, busy, device, withCore, coreInRange, coreIdle}
-use Rattle.chip.specs.Operation.{completeOn}
+use Rattle.chip.specs.Device.{withLeft, toggled, withRunning, withRecent, atRest, agedBy, busy, held, device, withCore, barred, heldInRange, coreInRange, coreIdle}
+use Rattle.chip.specs.Operation.{cellsOf, completeOn}
 use Rattle.commands.specs.Commands.{effectOf}
-use Rattle.chip.specs.Sequence.{afterEffect, writtenOf}
-use Rattle.chip.specs.Cycle.{Chip, chip, cycle, outcome, reply, settled, settledOf, status, shownOf, outputsOf, readOf, Outcome, actedOf, actionRefusal, cycleRefusal, acceptedOf, cycleOf}
+use Rattle.chip.specs.Sequence.{ignored, passedOver, resuming, afterEffect, writtenOf}
+use Rattle.chip.specs.Cycle.{Chip, chip, cycle, outcome, reply, settled, settledOf, tells, bit2, turnedBy, status, modeShows, veils, shownOf, outputsOf, readOf, Outcome, actedOf, actionRefusal, cycleRefusal, acceptedOf, cycleOf}
 use Rattle.chip.specs.Trace.{after, effectStarts, startedBy}
-use Rattle.chip.proofs.Accepted.{Accepted, accepting, Valid, valid-range, rest-range, in-range, stage-none, stage-rests}
-use Rattle.chip.proofs.Idle.{some-time-ages, idle-rests, idle-old, idle-reads, idle-ages}
+use Rattle.chip.proofs.Bits.{bit7-le, bit6-le, bit2-le}
+use Rattle.chip.proofs.Accepted.{Accepted, accepting, Valid, valid-range, rests-range, rest-range, in-range, stage-none, stage-rests}
+use Rattle.chip.proofs.Idle.{some-time-ages, idle-rests, idle-free, idle-old, idle-reads, idle-ages}
 
 -- ---- accepted or refused
 pub accepted-cycle : (part : ℕ) (cells : List ℕ) (d : Device) (c : Cycle) → Accepted part (length cells) d (c .action) → cycleOf part cells d c ≡ acceptedOf (rowOf part) cells d c
@@ -51,26 +52,30 @@ acted-answers r h wp (Write a x) = refl
 acted-answers r h wp Idle = refl
 acted-answers r h wp (Cut c) = refl
 
+-- where nothing is suspended, nothing is veiled
+pub unveiled : (r : Row) (k : Core) (a : ℕ) → held k ≡ false → veils r k a ≡ false
+unfolding veils
+unveiled r k a n = rw n
+
 -- the value that a known part's chip shows is a word
 acted-word : (part : ℕ) → partRefusal part ≡ 0 → (h : Chip) (wp : Bool) (a : Action) → actedOf (rowOf part) h wp a .reply .value < 2 ^ 16
 unfolding readOf
 acted-word part known h wp (Read a) =
-    split (λ (s : Shown). s .value < 2 ^ 16) (busy (h .device .core)) _ _
-    (λ _. busy-word (eqb (h .device .core .running .kind) 0) (h .device .core .running .toggle)) (λ _. outputs-word (h .device .core .recent) (rest-word (h .device .core .mode)))
+    split (λ (s : Shown). s .value < 2 ^ 16) (busy k) _ _
+    (λ _. omega (arith, bit7-le (k .running), bit6-le (k .running), bit2-le k (tells (rowOf part) (k .running) a)))
+    (λ _. outputs-word (k .recent)
+    (split (λ (n : ℕ). n < 2 ^ 16) (veils (rowOf part) k a) _ _ (λ _. omega (arith, bit2-le k true)) (λ _. mode-word (k .mode))))
   where
-    busy-word : (z t : Bool) → pick z (1 - h .device .core .running .«data» / 128 % 2) 0 * 128 + pick t 1 0 * 64 < 2 ^ 16
-    busy-word true true = omega arith
-    busy-word true false = omega arith
-    busy-word false true = omega arith
-    busy-word false false = omega arith
+    k : Core
+    k = h .device .core
 
     outputs-word : (n : Bool) {v : ℕ} → v < 2 ^ 16 → outputsOf (rowOf part .width) n v < 2 ^ 16
     outputs-word true l = xor-lt 16 _ _ l (omega (arith, pow-mono (width-most part known), pow-pos (rowOf part .width)))
     outputs-word false l = l
 
-    rest-word : (m : Mode) → shownOf (rowOf part) (h .cells) m a < 2 ^ 16
-    rest-word ReadMode = omega (arith, value-lt (rowOf part .width) (getD (h .cells) a 0), pow-mono (width-most part known))
-    rest-word Identification =
+    mode-word : (m : Mode) → modeShows (rowOf part) (h .cells) m a < 2 ^ 16
+    mode-word ReadMode = omega (arith, value-lt (rowOf part .width) (getD (h .cells) a 0), pow-mono (width-most part known))
+    mode-word Identification =
         split (λ (n : ℕ). n < 2 ^ 16) (eqb a 0) _ _ (λ _. omega arith) (λ _. split (λ (n : ℕ). n < 2 ^ 16) (eqb a 1) _ _ (λ _. omega (arith, device-word part known)) (λ _. omega arith))
 acted-word part known h wp (Write a x) = omega arith
 acted-word part known h wp Idle = omega arith
@@ -95,11 +100,12 @@ module _ (r : Row) (cells : List ℕ) (k : Core) (e : ℕ) where
   unfolding settledOf
   completes s l = simp (lt-ltb 0 (k .running .left) s, le-ltb e (k .running .left) l)
 
--- ---- a read at rest, at any stage and in any mode: the value, as the outputs are once its time has passed; nothing else changes
+-- ---- a read at rest, at any stage and in any mode: the value, as the outputs are once its time has passed; a veiled address turns bit 2 over, and nothing else changes
 pub read-at-rest : (part : ℕ) (cells : List ℕ) (d : Device) (a e : ℕ) (wp : Bool) → Accepted part (length cells) d (Read a) → busy (d .core) ≡ false
     → cycleOf part cells d (cycle e wp (Read a))
-    ≡ outcome cells (outputsOf (rowOf part .width) (agedBy (d .core) e .recent) (shownOf (rowOf part) cells (d .core .mode) a)) (withCore d (agedBy (d .core) e))
-unfolding acceptedOf readOf
+    ≡ outcome cells (outputsOf (rowOf part .width) (agedBy (d .core) e .recent) (shownOf (rowOf part) cells (d .core) a))
+    (withCore d (turnedBy (agedBy (d .core) e) (veils (rowOf part) (d .core) a)))
+unfolding acceptedOf readOf veils
 read-at-rest part cells d a e wp w b = accepted-cycle part cells d (cycle e wp (Read a)) w ∙ rw (rests (rowOf part) cells (d .core) e b, b)
 
 -- ---- on the lent cells of a known part
@@ -113,13 +119,13 @@ module _ (part : ℕ) (cells : List ℕ) (known : partRefusal part ≡ 0) (whole
       → cycleOf part cells (device k 0) (cycle e wp (Read a)) ≡ acceptedOf (rowOf part) cells (device k 0) (cycle e wp (Read a))
   read-accepted k e wp i = accepted-cycle part cells (device k 0) (cycle e wp (Read a)) (read-taken k i)
 
-  -- at rest in read mode it shows the cell's value so
-  read-rests : (k : Core) (e : ℕ) (wp : Bool) → busy k ≡ false → k .mode ≡ ReadMode
+  -- at rest in read mode, with nothing suspended, it shows the cell's value so
+  read-rests : (k : Core) (e : ℕ) (wp : Bool) → busy k ≡ false → held k ≡ false → k .mode ≡ ReadMode
       → cycleOf part cells (device k 0) (cycle e wp (Read a))
       ≡ outcome cells (outputsOf (rowOf part .width) (agedBy k e .recent) (valueOf (rowOf part .width) (getD cells a 0))) (device (agedBy k e) 0)
-  read-rests k e wp b m =
-      read-at-rest part cells (device k 0) a e wp (read-taken k (rest-range (rowOf part) k b)) b
-      ∙ ap (λ (m : Mode). outcome cells (outputsOf (rowOf part .width) (agedBy k e .recent) (shownOf (rowOf part) cells m a)) (device (agedBy k e) 0)) m
+  read-rests k e wp b n m =
+      read-at-rest part cells (device k 0) a e wp (read-taken k (rest-range (rowOf part) k b n)) b
+      ∙ rw (unveiled (rowOf part) k a n, m)
 
   -- so of an idle device the value; and the device stays as it is
   pub read-idle : (k : Core) (e : ℕ) (wp : Bool) → coreIdle k ≡ true
@@ -127,48 +133,70 @@ module _ (part : ℕ) (cells : List ℕ) (known : partRefusal part ≡ 0) (whole
   read-idle k e wp i =
       let w = rowOf part .width in
       let v = valueOf w (getD cells a 0) in
-      read-rests k e wp (idle-rests k i) (idle-reads k i)
+      read-rests k e wp (idle-rests k i) (idle-free k i) (idle-reads k i)
       ∙ (ap (λ (n : Core). outcome cells (outputsOf w (n .recent) v) (device n 0)) (idle-ages k i e)
       ∙ ap (λ (n : Bool). outcome cells (outputsOf w n v) (device k 0)) (idle-old k i))
 
   -- and after some time the value, whatever completed when; and no completion is 0 µs old then
-  pub read-later : (k : Core) (e : ℕ) (wp : Bool) → busy k ≡ false → k .mode ≡ ReadMode → 0 < e
+  pub read-later : (k : Core) (e : ℕ) (wp : Bool) → busy k ≡ false → held k ≡ false → k .mode ≡ ReadMode → 0 < e
       → cycleOf part cells (device k 0) (cycle e wp (Read a)) ≡ outcome cells (valueOf (rowOf part .width) (getD cells a 0)) (device (withRecent k false) 0)
-  read-later k e wp b m l =
+  read-later k e wp b n m l =
       let w = rowOf part .width in
-      read-rests k e wp b m ∙ ap (λ (n : Core). outcome cells (outputsOf w (n .recent) (valueOf w (getD cells a 0))) (device n 0)) (some-time-ages k e l)
+      read-rests k e wp b n m ∙ ap (λ (n : Core). outcome cells (outputsOf w (n .recent) (valueOf w (getD cells a 0))) (device n 0)) (some-time-ages k e l)
 
-  module _ (k : Core) (e : ℕ) (wp : Bool) (v : Valid (rowOf part) k) where
-    -- while an operation runs on
-    pub read-busy : e < k .running .left
-        → cycleOf part cells (device k 0) (cycle e wp (Read a))
-        ≡ outcome cells (status (k .running)) (device (withRunning k (toggled (withLeft (k .running) (k .running .left - e)))) 0)
-    unfolding acceptedOf readOf
-    read-busy l =
-        read-accepted k e wp (valid-range (rowOf part) k v) ∙ rw (runs-on (rowOf part) cells k e l) (simp (lt-ltb 0 (k .running .left - e) (omega arith)))
+  -- while an operation runs on
+  pub read-busy : (k : Core) (e : ℕ) (wp : Bool) → coreInRange (rowOf part) k ≡ true → e < k .running .left
+      → cycleOf part cells (device k 0) (cycle e wp (Read a))
+      ≡ outcome cells (status (rowOf part) k a) (device (turnedBy (withRunning k (toggled (withLeft (k .running) (k .running .left - e)))) (tells (rowOf part) (k .running) a)) 0)
+  unfolding acceptedOf readOf tells cellsOf
+  read-busy k e wp i l =
+      read-accepted k e wp i ∙ rw (runs-on (rowOf part) cells k e l) (simp (lt-ltb 0 (k .running .left - e) (omega arith)))
 
-    -- as, or after, it has completed: the value, as the outputs are 0 µs after the completion or later
-    pub read-done : 0 < k .running .left → k .running .left ≤ e
-        → cycleOf part cells (device k 0) (cycle e wp (Read a))
-        ≡ outcome (completeOn (rowOf part) (k .running) cells)
-        (outputsOf (rowOf part .width) (eqb e (k .running .left)) (valueOf (rowOf part .width) (getD (completeOn (rowOf part) (k .running) cells) a 0)))
-        (device (atRest k (eqb e (k .running .left))) 0)
-    unfolding acceptedOf readOf
-    read-done s l =
-        read-accepted k e wp (valid-range (rowOf part) k v) ∙ rw (completes (rowOf part) cells k e s l, v .mode)
+  -- as, or after, it has completed, with nothing suspended: the value, as the outputs are 0 µs after the completion or later
+  pub read-done : (k : Core) (e : ℕ) (wp : Bool) → held k ≡ false → Valid (rowOf part) k → 0 < k .running .left → k .running .left ≤ e
+      → cycleOf part cells (device k 0) (cycle e wp (Read a))
+      ≡ outcome (completeOn (rowOf part) (k .running) cells)
+      (outputsOf (rowOf part .width) (eqb e (k .running .left)) (valueOf (rowOf part .width) (getD (completeOn (rowOf part) (k .running) cells) a 0)))
+      (device (atRest k (eqb e (k .running .left))) 0)
+  unfolding acceptedOf readOf
+  read-done k e wp n v s l =
+      read-accepted k e wp (valid-range (rowOf part) k n v)
+      ∙ rw (completes (rowOf part) cells k e s l, unveiled (rowOf part) (atRest k (eqb e (k .running .left))) a n, v .mode)
 
-  -- a write at rest, at a stage
-  module _ (k : Core) (s e : ℕ) (wp : Bool) (x : ℕ) (b : busy k ≡ false) (le : s ≤ 6) (fits : fitsIn (rowOf part .width) x ≡ true) where
+  -- a write at rest, at a stage, what is suspended being in range and not resumed by it
+  module _ (k : Core) (s e : ℕ) (wp : Bool) (x : ℕ) (b : busy k ≡ false) (holds : held k ≡ true → heldInRange (rowOf part) (k .suspended) ≡ true)
+      (still : resuming k s x ≡ false) (le : s ≤ 6) (fits : fitsIn (rowOf part .width) x ≡ true) where
     write-accepted : Accepted part (length cells) (device k s) (Write a x)
     unfolding actionRefusal
     write-accepted =
-        record { known = known; whole = whole; state = in-range (rowOf part) k s (stage-rests k s b le) (rest-range (rowOf part) k b); reach = simp (lt-ltb a (rowOf part .cells) there, fits) }
+        record {
+          known = known;
+          whole = whole;
+          state = in-range (rowOf part) k s (stage-rests k s b le) (rests-range (rowOf part) k b holds);
+          reach = simp (lt-ltb a (rowOf part .cells) there, fits);
+        }
 
     -- what it leaves, and what it starts, by its effect
     pub write-leaves : after part (chip cells (device k s)) (cycle e wp (Write a x)) ≡ chip cells (afterEffect (rowOf part) (agedBy k e) wp a x (effectOf (rowOf part) s a x))
     unfolding after acceptedOf writtenOf
-    write-leaves = rw (accepted-cycle part cells (device k s) (cycle e wp (Write a x)) write-accepted, rests (rowOf part) cells k e b, b)
+    write-leaves = rw (accepted-cycle part cells (device k s) (cycle e wp (Write a x)) write-accepted, rests (rowOf part) cells k e b, b, still)
 
-    pub write-starts : startedBy part (chip cells (device k s)) (cycle e wp (Write a x)) ≡ effectStarts (rowOf part) wp a x (effectOf (rowOf part) s a x)
+    pub write-starts : startedBy part (chip cells (device k s)) (cycle e wp (Write a x)) ≡ effectStarts (rowOf part) (agedBy k e) wp a x (effectOf (rowOf part) s a x)
     unfolding startedBy
-    write-starts = rw (accepting part (length cells) (device k s) (Write a x) write-accepted, rests (rowOf part) cells k e b, b)
+    write-starts = rw (accepting part (length cells) (device k s) (Write a x) write-accepted, rests (rowOf part) cells k e b, b, still)
+
+-- ---- where nothing is suspended, nothing is resumed, and a command is passed over only where WP# protects from it
+module _ (k : Core) (n : held k ≡ false) where
+  pub none-held : {P : Type 0} → held k ≡ true → P
+  none-held h = apart (sym n ∙ h)
+
+  pub none-resumed : (s x : ℕ) → resuming k s x ≡ false
+  none-resumed s x = rw n
+
+  pub none-barred : (r : Row) (c a : ℕ) → barred r (k .suspended) c a ≡ false
+  unfolding barred
+  none-barred r c a = rw n
+
+  pub only-protected : (r : Row) (wp : Bool) (c a : ℕ) → passedOver r k wp c a ≡ ignored r wp c a
+  unfolding passedOver
+  only-protected r wp c a = rw (none-barred r c a)

@@ -1,7 +1,7 @@
 -- Time at rest, and an idle device: no sequence begun and an idle core. Callers cite these laws, so that what idle asks of a core can grow.
 use Prim.Native.Nat.{ℕ, zero, suc, _<_}
 use mathlib.Core.Path.{_≡_, refl, sym, ap, _∙_}
-use mathlib.Core.Bool.{true, false}
+use mathlib.Core.Bool.{Bool, true, false}
 use native.Mathlib.Omega.{arith}
 use borrow.Author.Tests.{lt-ltb, eqb-true}
 use lib.Dec.{eqb}
@@ -12,7 +12,8 @@ use Rattle.chip.specs.declared.device.Operation.{Operation}
 use Rattle.chip.specs.declared.device.Core.{Core}
 use Rattle.chip.specs.declared.device.Device.{Device}
 use Rattle.parts.specs.Pick.{pick}
-use Rattle.chip.specs.Device.{withRecent, busyWith, atRest, agedBy, freshCore, busy, reads, device, freshDevice, coreInRange, coreIdle, idle}
+use Rattle.chip.specs.Device.{withRecent, busyWith, atRest, agedBy, freshCore, busy, held, reads, device, withCore, freshDevice, coreInRange, coreIdle, idle}
+use Rattle.chip.specs.Recent.{later}
 use Rattle.chip.proofs.Accepted.{read-mode, rest-range}
 
 pub idle-is : (d : Device) → idle d ≡ true → (d ≡ device (d .core) 0) × (coreIdle (d .core) ≡ true)
@@ -27,21 +28,27 @@ some-time-ages k e some = ap (withRecent k) (simp (lt-ltb 0 e some))
 
 -- ---- an idle core
 module _ (k : Core) (i : coreIdle k ≡ true) where
+  parts : (busy k ≡ false) × ((held k ≡ false) × ((k .recent ≡ false) × (reads (k .mode) ≡ true)))
+  unfolding coreIdle
+  parts =
+      let f = unless (busy k) (pick (held k) false (pick (k .recent) false (reads (k .mode)))) i in
+      let g = unless (held k) (pick (k .recent) false (reads (k .mode))) (f .1) in
+      (f .0, (g .0, unless (k .recent) (reads (k .mode)) (g .1)))
+
   -- nothing runs
   pub idle-rests : busy k ≡ false
-  unfolding coreIdle
-  idle-rests = unless (busy k) (pick (k .recent) false (reads (k .mode))) i .0
+  idle-rests = parts .0
+
+  -- nothing is suspended
+  pub idle-free : held k ≡ false
+  idle-free = parts .1 .0
 
   -- no completion is 0 µs old, and it is in read mode
-  old-reads : (k .recent ≡ false) × (reads (k .mode) ≡ true)
-  unfolding coreIdle
-  old-reads = unless (k .recent) (reads (k .mode)) (unless (busy k) (pick (k .recent) false (reads (k .mode))) i .1)
-
   pub idle-old : k .recent ≡ false
-  idle-old = old-reads .0
+  idle-old = parts .1 .1 .0
 
   pub idle-reads : k .mode ≡ ReadMode
-  idle-reads = read-mode (k .mode) (old-reads .1)
+  idle-reads = read-mode (k .mode) (parts .1 .1 .1)
 
   -- no time changes it
   pub idle-ages : (e : ℕ) → agedBy k e ≡ k
@@ -49,12 +56,16 @@ module _ (k : Core) (i : coreIdle k ≡ true) where
   idle-ages (suc e) = some-time-ages k (suc e) (omega arith) ∙ ap (withRecent k) (sym idle-old)
 
   pub idle-range : (r : Row) → coreInRange r k ≡ true
-  idle-range r = rest-range r k idle-rests
+  idle-range r = rest-range r k idle-rests idle-free
 
   -- once an operation that it started has completed and time has passed, it is idle again
   pub idle-again : (o : Operation) → coreIdle (atRest (busyWith k o) false) ≡ true
   unfolding coreIdle
-  idle-again o = refl
+  idle-again o = rw idle-free
+
+-- an idle device is the same some time later
+pub idle-later : (d : Device) → idle d ≡ true → later d ≡ d
+idle-later d i = ap (λ (n : Bool). withCore d (withRecent (d .core) n)) (sym (idle-old (d .core) (idle-is d i .1)))
 
 -- ---- a fresh device is idle
 pub fresh-core-idle : coreIdle freshCore ≡ true

@@ -15,7 +15,7 @@ use Rattle.chip.specs.Operation.{cellsOf, over, finished, scarred}
 use Rattle.chip.proofs.Over.{over-part, over-one}
 
 -- a program has one cell
-program-cells : (r : Row) (o : Operation) → o .kind ≡ 0 → cellsOf r o ≡ span (o .address) 1
+pub program-cells : (r : Row) (o : Operation) → o .kind ≡ 0 → cellsOf r o ≡ span (o .address) 1
 unfolding cellsOf
 program-cells r o k = simp (eq-eqb _ _ k)
 

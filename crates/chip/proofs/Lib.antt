@@ -7,10 +7,12 @@ pub mod Idle
 pub mod Sampled
 pub mod Settled
 pub mod Cases
+pub mod Apart
 pub mod Started
 pub mod Trace
 pub mod Ranges
 pub mod Recent
+pub mod Suspended
 pub mod Determined
 pub mod Sentences
 pub mod Untouched

@@ -50,5 +50,5 @@ module _ (f : ℕ → ℕ) where
       ∙ sym (rw (drop-cons cells a 0 h))
 
   -- no cell is gained or lost
-  pub over-length : (s : Span) (cells : List ℕ) → s .first + s .count ≤ length cells → length (over f s cells) ≡ length cells
-  over-length s cells h = simp (length-append, length-map, length-take, length-drop) (omega arith)
+  pub over-length : (s : Span) (cells : List ℕ) → length (over f s cells) ≡ length cells
+  over-length s cells = simp (length-append, length-map, length-take, length-drop) (omega arith)

@@ -2,16 +2,17 @@
 use Prim.Native.Nat.{ℕ, _≤_, _<_}
 use mathlib.Core.Path.{_≡_, refl, sym, ap, _∙_}
 use mathlib.Core.Bool.{Bool, true, false}
-use mathlib.Core.List.{List, []}
+use mathlib.Core.List.{List}
 use native.Mathlib.Nat.{le-of-eq}
 use native.Mathlib.Omega.{arith}
-use borrow.Author.Tests.{ltb-true, eq-eqb, ne-eqb}
+use borrow.Author.Tests.{ltb-true, lt-ltb, eq-eqb, ne-eqb}
 use lib.Dec.{eqb, ltb}
 use lib.ListN.{length}
 use Rattle.parts.specs.Pick.{pick}
 use Rattle.parts.specs.Table.{rowOf}
+use Rattle.parts.specs.Time.{hasCommand, timeOf}
 use Rattle.parts.specs.declared.table.Row.{Row}
-use Rattle.parts.proofs.Every.{apart, split}
+use Rattle.parts.proofs.Every.{apart, both, split}
 use Rattle.parts.proofs.Sound.{width-least}
 use Rattle.commands.specs.declared.effect.Effect.{Effect}
 use Rattle.commands.specs.declared.effect.Mode.the-variants.{ReadMode}
@@ -23,17 +24,19 @@ use Rattle.chip.specs.declared.cycle.Action.{Action}
 use Rattle.chip.specs.declared.cycle.Action.the-variants.{Read, Write, Idle, Cut}
 use Rattle.chip.specs.declared.cycle.Cycle.{Cycle}
 use Rattle.chip.specs.declared.cycle.Shown.{Shown}
-use Rattle.chip.specs.Device.{withRecent, atRest, agedBy, busy, device, withCore, freshDevice, coreInRange, deviceInRange, coreIdle, idle}
+use Rattle.chip.specs.Device.{withRecent, atRest, suspend, resume, agedBy, busy, held, device, withCore, freshDevice, coreInRange, deviceInRange, coreIdle, idle}
 use Rattle.chip.specs.Operation.{completeOn}
-use Rattle.chip.specs.Sequence.{ignored, afterEffect, writtenOf}
-use Rattle.chip.specs.Cycle.{cycle, Chip, chip, Outcome, outcome, Settled, settledOf, afterTime, shownOf, inverted, outputsOf, readOf, cutOf, cycleRefusal, actedOf, acceptedOf, cycleOf}
-use Rattle.chip.specs.Trace.{after, effectStarts, actionStarts, startedBy, uncutAction}
-use Rattle.chip.specs.Recent.{DifferButSeven, recentOnce, later, none}
+use Rattle.chip.specs.Sequence.{passedOver, suspending, resuming, afterEffect, writtenOf}
+use Rattle.chip.specs.Cycle.{cycle, Chip, chip, Outcome, outcome, Settled, settledOf, afterTime, turnedBy, veils, shownOf, inverted, outputsOf, readOf, cutShort, cutOf, cycleRefusal, actedOf, acceptedOf, cycleOf}
+use Rattle.chip.specs.Trace.{after, effectStarts, actionStarts, uncutAction}
+use Rattle.chip.specs.Recent.{DifferButSeven, recentOnce, later}
 use Rattle.chip.proofs.Accepted.{Accepted, accepted, accepting, busy-valid, ranges}
 use Rattle.chip.proofs.Idle.{idle-is, some-time-ages, idle-old}
 use Rattle.chip.proofs.Cases.{accepted-cycle, rests, read-at-rest, completes}
 use Rattle.chip.proofs.Outputs.{differ-so}
 use Rattle.chip.proofs.Sampled.{twice, sampled}
+use Rattle.chip.proofs.Settled.{after-time-range}
+use Rattle.chip.proofs.Trace.{timely}
 use Rattle.chip.proofs.Ranges.{after-range, after-length}
 
 -- ---- when a completion is 0 µs old
@@ -50,31 +53,47 @@ settled-recent r cells k e i =
     under l q = omega arith
 
 -- once the cycle has acted
-module _ (r : Row) (h : Chip) (wp : Bool) where
-  abbrev Keeps : Device → List Operation → Type 0
-  Keeps d os = d .core .recent ≡ pick (none os) (h .device .core .recent) false
+module _ (r : Row) (h : Chip) (wp : Bool) (time : (c : ℕ) → hasCommand r c ≡ true → 0 < timeOf r c) (i : deviceInRange r (h .device) ≡ true) where
+  abbrev k : Core
+  k = h .device .core
 
-  acted-recent : (a : Action) → actedOf r h wp a .reply .device .core .recent ≡ pick (uncutAction a) (pick (none (actionStarts r (h .device) wp a)) (h .device .core .recent) false) false
+  -- where something runs no completion is 0 µs old
+  busy-old : busy k ≡ true → k .recent ≡ false
+  busy-old b = busy-valid r k (ranges r (h .device) i .1) b .old
+
+  abbrev Keeps : Device → Type 0
+  Keeps d = d .core .recent ≡ pick (busy (d .core)) false (k .recent)
+
+  -- so where what runs has the time left that it had
+  same : k .recent ≡ pick (busy k) false (k .recent)
+  same = by (busy k) busy-old
+    where
+      by : (b : Bool) → (b ≡ true → k .recent ≡ false) → k .recent ≡ pick b false (k .recent)
+      by true f = f refl
+      by false f = refl
+
+  acted-recent : (a : Action) → actedOf r h wp a .reply .device .core .recent ≡ pick (uncutAction a) (pick (busy (actedOf r h wp a .reply .device .core)) false (k .recent)) false
   unfolding readOf writtenOf
-  acted-recent (Read a) = split (λ (s : Shown). s .core .recent ≡ h .device .core .recent) (busy (h .device .core)) _ _ (λ _. refl) (λ _. refl)
+  acted-recent (Read a) = split (λ (s : Shown). s .core .recent ≡ pick (busy (s .core)) false (k .recent)) (busy k) _ _ (λ _. same) (λ _. same)
   acted-recent (Write a x) =
-      let k = h .device .core in
-      twice Keeps (busy k) (h .device) _ [] _ (λ _. refl)
-      (λ _. effect-is (λ (e : Effect). Keeps (afterEffect r k wp a x e) (effectStarts r wp a x e)) r (h .device .stage) a x
-      (λ _ _. refl) (λ c _. sampled (λ (k : Core) (os : List Operation). Keeps (device k 0) os) r k wp a x c (λ _. refl) (λ _. refl)) (λ _. refl))
-  acted-recent Idle = refl
+      split Keeps (busy k) _ _
+      (λ b. split Keeps (suspending r k x) (device (suspend k) 0) (h .device) (λ _. refl) (λ _. same))
+      (λ _. split Keeps (resuming k (h .device .stage) x) (device (resume k) 0) _ (λ s. rw (both (held k) _ s .0))
+      (λ _. effect-is (λ (e : Effect). Keeps (afterEffect r k wp a x e)) r (h .device .stage) a x (λ _ _. same)
+      (λ c t. sampled (λ (n : Core) (os : List Operation). Keeps (device n 0)) r k wp a x c (λ _. same) (λ _. rw (lt-ltb 0 (timeOf r c) (time c t)))) (λ m. same)))
+  acted-recent Idle = same
   acted-recent (Cut s) = refl
 
--- After a cycle that is not refused a completion is 0 µs old exactly where it cut no power, started nothing, and the time that it carried was just what was left
--- of what ran; or none, and a completion was so before.
+-- After a cycle that is not refused a completion is 0 µs old exactly where it cut no power, nothing runs, neither started nor resumed, and the time that it
+-- carried was just what was left of what ran; or none, and a completion was so before.
 pub recent-exactly : (part : ℕ) (h : Chip) (c : Cycle) → Accepted part (length (h .cells)) (h .device) (c .action)
-    → after part h c .device .core .recent ≡ pick (uncutAction (c .action)) (pick (none (startedBy part h c)) (recentOnce (h .device .core) (c .elapsed)) false) false
-unfolding after startedBy acceptedOf
+    → after part h c .device .core .recent ≡ pick (uncutAction (c .action)) (pick (busy (after part h c .device .core)) false (recentOnce (h .device .core) (c .elapsed))) false
+unfolding after acceptedOf
 recent-exactly part h c w =
     let r = rowOf part in
-    rw (accepted-cycle part (h .cells) (h .device) c w, accepting part (length (h .cells)) (h .device) (c .action) w)
-    (acted-recent r (afterTime r h (c .elapsed)) (c .wp) (c .action)
-    ∙ ap (λ (n : Bool). pick (uncutAction (c .action)) (pick (none (actionStarts r (afterTime r h (c .elapsed) .device) (c .wp) (c .action))) n false) false)
+    rw (accepted-cycle part (h .cells) (h .device) c w)
+    (acted-recent r (afterTime r h (c .elapsed)) (c .wp) (timely part (w .known)) (after-time-range r h (c .elapsed) (w .state)) (c .action)
+    ∙ ap (λ (n : Bool). pick (uncutAction (c .action)) (pick (busy (actedOf r (afterTime r h (c .elapsed)) (c .wp) (c .action) .reply .device .core)) false n) false)
     (settled-recent r (h .cells) (h .device .core) (c .elapsed) (ranges r (h .device) (w .state) .1)))
 
 -- Refusal 5 covers it: with an operation pending no state in range has one.
@@ -111,24 +130,26 @@ module _ (part : ℕ) (cells : List ℕ) (d : Device) (a : ℕ) (z : cycleRefusa
       })
 
   rested : (e : ℕ) (wp : Bool) → busy (d .core) ≡ false
-      → cycleOf part cells d (cycle e wp (Read a)) ≡ outcome cells (outputsOf (r .width) (agedBy (d .core) e .recent) (shownOf r cells (d .core .mode) a)) (withCore d (agedBy (d .core) e))
+      → cycleOf part cells d (cycle e wp (Read a)) ≡ outcome cells (outputsOf (r .width) (agedBy (d .core) e .recent) (shownOf r cells (d .core) a))
+      (withCore d (turnedBy (agedBy (d .core) e) (veils r (d .core) a)))
   rested e wp b = read-at-rest part cells d a e wp (accepted part (length cells) d (Read a) z) b
 
   -- after some time it shows the value,
-  shows-later : (e : ℕ) (wp : Bool) → 0 < e → busy (d .core) ≡ false → looks e wp ≡ shownOf r cells (d .core .mode) a
+  shows-later : (e : ℕ) (wp : Bool) → 0 < e → busy (d .core) ≡ false → looks e wp ≡ shownOf r cells (d .core) a
   shows-later e wp some b =
       ap (λ (o : Outcome). o .reply .value) (rested e wp b)
-      ∙ ap (λ (k : Core). outputsOf (r .width) (k .recent) (shownOf r cells (d .core .mode) a)) (some-time-ages (d .core) e some)
+      ∙ ap (λ (k : Core). outputsOf (r .width) (k .recent) (shownOf r cells (d .core) a)) (some-time-ages (d .core) e some)
 
   -- and at once, a completion being 0 µs old, its bits but 7 inverted
-  shows-at-once : (wp : Bool) → d .core .recent ≡ true → busy (d .core) ≡ false → looks 0 wp ≡ inverted (r .width) (shownOf r cells (d .core .mode) a)
+  shows-at-once : (wp : Bool) → d .core .recent ≡ true → busy (d .core) ≡ false → looks 0 wp ≡ inverted (r .width) (shownOf r cells (d .core) a)
   shows-at-once wp n b = ap (λ (o : Outcome). o .reply .value) (rested 0 wp b) ∙ rw n
 
   -- The read in which an operation completes with e just what was left of it: the value then, its bits but 7 inverted.
   pub read-at-once : (e : ℕ) (wp : Bool) → 0 < e → d .core .running .left ≡ e
       → cycleOf part cells d (cycle e wp (Read a))
-      ≡ outcome (completeOn r (d .core .running) cells) (inverted (r .width) (shownOf r (completeOn r (d .core .running) cells) (d .core .mode) a)) (withCore d (atRest (d .core) true))
-  unfolding acceptedOf readOf
+      ≡ outcome (completeOn r (d .core .running) cells) (inverted (r .width) (shownOf r (completeOn r (d .core .running) cells) (atRest (d .core) true) a))
+      (withCore d (turnedBy (atRest (d .core) true) (veils r (d .core) a)))
+  unfolding acceptedOf readOf veils
   read-at-once e wp some l =
       let left = d .core .running .left in
       taken e wp ∙ rw (completes r cells (d .core) e (rw l some) (le-of-eq l), eq-eqb e left (sym l))
@@ -139,49 +160,56 @@ module _ (part : ℕ) (cells : List ℕ) (d : Device) (a : ℕ) (z : cycleRefusa
   word-later n wp wp′ e some =
       let g = accepted part (length cells) d (Read a) z in
       let b = recent-rests r d (g .state) n in
-      differ-so (r .width) (width-least part (g .known)) (looks 0 wp) (looks e wp′) (shownOf r cells (d .core .mode) a) (shows-at-once wp n b) (shows-later e wp′ some b)
+      differ-so (r .width) (width-least part (g .known)) (looks 0 wp) (looks e wp′) (shownOf r cells (d .core) a) (shows-at-once wp n b) (shows-later e wp′ some b)
 
--- and from the read in which an operation completes on: that shows bit 7 of the word and the others inverted, and the next one, any time later, the word.
-pub word-after-completion : (part : ℕ) (cells : List ℕ) (d : Device) (a e : ℕ) (wp : Bool) → cycleRefusal part (length cells) d (Read a) ≡ 0 → 0 < e → d .core .running .left ≡ e
-    → (e′ : ℕ) (wp′ : Bool) → 0 < e′
+-- and from the read in which an operation completes on, where no suspended erase veils the address: that shows bit 7 of the word and the others inverted, and
+-- the next one, any time later, the word.
+pub word-after-completion : (part : ℕ) (cells : List ℕ) (d : Device) (a e : ℕ) (wp : Bool) → cycleRefusal part (length cells) d (Read a) ≡ 0 → veils (rowOf part) (d .core) a ≡ false
+    → 0 < e → d .core .running .left ≡ e → (e′ : ℕ) (wp′ : Bool) → 0 < e′
     → let o = cycleOf part cells d (cycle e wp (Read a)) in
     DifferButSeven (rowOf part .width) (o .reply .value) (cycleOf part (o .cells) (o .reply .device) (cycle e′ wp′ (Read a)) .reply .value)
-word-after-completion part cells d a e wp z some l e′ wp′ later =
+word-after-completion part cells d a e wp z clear some l e′ wp′ later =
     let known = accepted part (length cells) d (Read a) z .known in
-    differ-so (rowOf part .width) (width-least part known) _ _ (shownOf (rowOf part) done (d .core .mode) a) (ap (λ (o : Outcome). o .reply .value) first)
+    differ-so (rowOf part .width) (width-least part known) _ _ (shownOf (rowOf part) done rested a) (ap (λ (o : Outcome). o .reply .value) first)
     (next (cycleOf part cells d (cycle e wp (Read a))) first)
   where
     done : List ℕ
     done = completeOn (rowOf part) (d .core .running) cells
 
+    rested : Core
+    rested = atRest (d .core) true
+
     met : Outcome
-    met = outcome done (inverted (rowOf part .width) (shownOf (rowOf part) done (d .core .mode) a)) (withCore d (atRest (d .core) true))
+    met = outcome done (inverted (rowOf part .width) (shownOf (rowOf part) done rested a)) (withCore d rested)
 
     first : cycleOf part cells d (cycle e wp (Read a)) ≡ met
-    first = read-at-once part cells d a z e wp some l
+    first = read-at-once part cells d a z e wp some l ∙ rw clear
 
-    next : (o : Outcome) → o ≡ met → cycleOf part (o .cells) (o .reply .device) (cycle e′ wp′ (Read a)) .reply .value ≡ shownOf (rowOf part) done (d .core .mode) a
-    next o q = rw q (shows-later part done (withCore d (atRest (d .core) true)) a (again part cells d a z e wp met first) e′ wp′ later refl)
+    next : (o : Outcome) → o ≡ met → cycleOf part (o .cells) (o .reply .device) (cycle e′ wp′ (Read a)) .reply .value ≡ shownOf (rowOf part) done rested a
+    next o q = rw q (shows-later part done (withCore d rested) a (again part cells d a z e wp met first) e′ wp′ later refl)
 
--- ---- Writes are taken as before: what they start, and the mode, the stage and what runs after them, do not hang on it.
+-- ---- Writes are taken as before: what they start, and the mode, the stage, what runs and what is suspended after them, do not hang on it.
 pub writes-alike : (r : Row) (k : Core) (n : Bool) (s : ℕ) (wp : Bool) (a x : ℕ) → let d = device (withRecent k n) s in
     (actionStarts r d wp (Write a x) ≡ actionStarts r (device k s) wp (Write a x))
-    × (withCore (writtenOf r d wp a x) (withRecent (writtenOf r d wp a x .core) false)
-    ≡ withCore (writtenOf r (device k s) wp a x) (withRecent (writtenOf r (device k s) wp a x .core) false))
-unfolding writtenOf
+    × (later (writtenOf r d wp a x) ≡ later (writtenOf r (device k s) wp a x))
+unfolding writtenOf passedOver
 writes-alike r k n s wp a x = (
-  refl,
-  twice Alike (busy k) _ _ _ _ (λ _. refl)
+  twice (λ (os ps : List Operation). os ≡ ps) (busy k) _ _ _ _ (λ _. refl)
+      (λ _. twice (λ (os ps : List Operation). os ≡ ps) (resuming k s x) _ _ _ _ (λ _. refl)
+      (λ _. effect-is (λ (e : Effect). effectStarts r (withRecent k n) wp a x e ≡ effectStarts r k wp a x e) r s a x (λ _ _. refl) (λ _ _. refl) (λ _. refl))),
+  twice Alike (busy k) _ _ _ _ (λ _. twice Alike (suspending r k x) _ _ _ _ (λ _. refl) (λ _. refl))
+      (λ _. twice Alike (resuming k s x) _ _ _ _ (λ _. refl)
       (λ _. effect-is (λ (e : Effect). Alike (afterEffect r (withRecent k n) wp a x e) (afterEffect r k wp a x e)) r s a x (λ _ _. refl)
-      (λ c _. twice (λ (j l : Core). Alike (device j 0) (device l 0)) (ignored r wp c a) _ _ _ _ (λ _. refl) (λ _. refl)) (λ _. refl)),
+      (λ c _. twice (λ (j l : Core). Alike (device j 0) (device l 0)) (passedOver r k wp c a) _ _ _ _ (λ _. refl) (λ _. refl)) (λ _. refl))),
 )
   where
     Alike : Device → Device → Type 0
-    Alike d f = withCore d (withRecent (d .core) false) ≡ withCore f (withRecent (f .core) false)
+    Alike d f = later d ≡ later f
 
--- ---- A cut then finds the operation complete: with the time that was left, or more, its cells are as it leaves them, no scar among them, and the device is fresh.
+-- ---- A cut then finds the operation complete: with the time that was left, or more, its cells are as it leaves them, no scar among them but those of what is
+-- suspended, and the device is fresh.
 pub cut-done : (part : ℕ) (cells : List ℕ) (d : Device) (e : ℕ) (wp : Bool) (s : ℕ) → cycleRefusal part (length cells) d (Cut s) ≡ 0 → 0 < d .core .running .left → d .core .running .left ≤ e
-    → cycleOf part cells d (cycle e wp (Cut s)) ≡ outcome (completeOn (rowOf part) (d .core .running) cells) 0 freshDevice
+    → cycleOf part cells d (cycle e wp (Cut s)) ≡ outcome (cutShort (rowOf part) (d .core .suspended) s (completeOn (rowOf part) (d .core .running) cells)) 0 freshDevice
 unfolding acceptedOf cutOf
 cut-done part cells d e wp s z some l =
     accepted-cycle part cells d (cycle e wp (Cut s)) (accepted part (length cells) d (Cut s) z) ∙ rw (completes (rowOf part) cells (d .core) e some l)
@@ -197,11 +225,7 @@ later-is part h e wp z b some =
       some-time-ages (h .device .core) e some,
     )
 
--- An idle device is the same then;
-pub idle-later : (d : Device) → idle d ≡ true → later d ≡ d
-idle-later d i = ap (λ (n : Bool). withCore d (withRecent (d .core) n)) (sym (idle-old (d .core) (idle-is d i .1)))
-
--- and one whose operation has just completed is idle.
-pub completed-later : (k : Core) → k .mode ≡ ReadMode → idle (later (device (atRest k true) 0)) ≡ true
+-- One whose operation has just completed, with nothing suspended, is idle then; an idle one is the same (Idle `idle-later`).
+pub completed-later : (k : Core) → k .mode ≡ ReadMode → held k ≡ false → idle (later (device (atRest k true) 0)) ≡ true
 unfolding idle coreIdle
-completed-later k m = rw m
+completed-later k m n = rw (n, m)

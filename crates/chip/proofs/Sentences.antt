@@ -7,13 +7,13 @@ use native.Mathlib.Omega.{arith}
 use borrow.Author.Tests.{lt-ltb, ne-eqb, eqb-true}
 use lib.Dec.{eqb, ltb}
 use lib.ListN.{length, getD}
+use Rattle.parts.specs.Pick.{pick}
 use Rattle.parts.specs.Width.{fitsIn}
 use Rattle.parts.specs.Table.{rowOf, partRefusal}
 use Rattle.parts.specs.Span.{hasBlocks}
 use Rattle.parts.specs.declared.table.Row.{Row}
-use Rattle.parts.proofs.Every.{split}
+use Rattle.parts.proofs.Every.{pick-same, split}
 use Rattle.parts.proofs.Sound.{known}
-use Rattle.commands.specs.declared.effect.Mode.{Mode}
 use Rattle.commands.specs.declared.effect.Mode.the-variants.{ReadMode, Identification}
 use Rattle.chip.specs.declared.device.Operation.{Operation}
 use Rattle.chip.specs.declared.device.Core.{Core}
@@ -24,18 +24,23 @@ use Rattle.chip.specs.declared.cycle.Action.{Action}
 use Rattle.chip.specs.declared.cycle.Action.the-variants.{Read, Write, Idle, Cut}
 use Rattle.chip.specs.declared.cycle.Cycle.{Cycle}
 use Rattle.chip.specs.declared.cycle.Shown.{Shown}
-use Rattle.chip.specs.Device.{noOperation, busy, device, withCore, freshDevice, core, inMode, agedBy, deviceInRange}
+use Rattle.chip.specs.Device.{noOperation, pending, busy, held, device, withCore, freshDevice, core, inMode, busyWith, agedBy, heldInRange, deviceInRange}
 use Rattle.commands.specs.Commands.{broken, effectOf}
 use Rattle.chip.specs.Operation.{cellsOf, over, scarred, cutOn}
-use Rattle.chip.specs.Sequence.{afterEffect, writtenOf}
-use Rattle.chip.specs.Cycle.{cycle, Chip, chip, Outcome, outcome, identity, shownOf, outputsOf, readOf, cutOf, settledOf, Settled, afterTime, actionRefusal, cycleRefusal, actedOf, acceptedOf, cycleOf}
+use Rattle.chip.specs.Sequence.{suspending, resuming, afterEffect, writtenOf}
+use Rattle.chip.specs.Cycle.{cycle, Chip, chip, Outcome, outcome, identity, veils, outputsOf, readOf, cutOf, settledOf, Settled, afterTime, actionRefusal, cycleRefusal, actedOf, acceptedOf, cycleOf}
 use Rattle.chip.specs.Trace.{leaves, after, play, effectStarts, actionStarts, startedBy, startedIn}
 use Rattle.chip.proofs.Accepted.{accepted}
 use Rattle.chip.proofs.Cases.{accepted-cycle, refused-cycle, rests, read-at-rest, write-leaves, write-starts}
 use Rattle.commands.proofs.Effects.{effect-is}
 use Rattle.chip.proofs.Sampled.{twice, sampled}
 use Rattle.commands.proofs.Broken.{continues, is-broken, resets, no-blocks}
+use Rattle.chip.proofs.Settled.{time-holds}
 use Rattle.chip.proofs.Ranges.{after-range}
+
+-- the cells of an operation that is pending, scarred
+abbrev scarsOf : Row → ℕ → Operation → List ℕ → List ℕ
+scarsOf r s o cells = pick (pending o) (over (scarred r o s) (cellsOf r o) cells) cells
 
 -- ---- of a cycle that is not refused
 module _ (part : ℕ) (cells : List ℕ) (d : Device) (e : ℕ) (wp : Bool) where
@@ -55,13 +60,13 @@ module _ (part : ℕ) (cells : List ℕ) (d : Device) (e : ℕ) (wp : Bool) wher
       let w = accepted part (length cells) d a z in
       accepted-cycle part cells d (cycle e wp Idle) (record { known = w .known; whole = w .whole; state = w .state; reach = refl })
 
-  -- A write while busy does nothing: it is as idle time.
-  pub busy-write : (a x : ℕ) → Taken (Write a x) → e < d .core .running .left → gives (Write a x) ≡ gives Idle
+  -- A write while busy does nothing, but B0H where it suspends: it is as idle time.
+  pub busy-write : (a x : ℕ) → Taken (Write a x) → e < d .core .running .left → suspending (rowOf part) (d .core) x ≡ false → gives (Write a x) ≡ gives Idle
   unfolding acceptedOf settledOf writtenOf
-  busy-write a x z l =
+  busy-write a x z l n =
       let left = d .core .running .left in
       let same : acceptedOf (rowOf part) cells d (cycle e wp (Write a x)) ≡ acceptedOf (rowOf part) cells d (cycle e wp Idle)
-      = simp (lt-ltb 0 left (omega arith), lt-ltb e left l, lt-ltb 0 (left - e) (omega arith)) in
+      = simp (lt-ltb 0 left (omega arith), lt-ltb e left l, lt-ltb 0 (left - e) (omega arith), n) in
       taken (Write a x) z ∙ (same ∙ sym (idles (Write a x) z))
 
   -- A read disturbs no sequence, in any mode: the stage and the mode are what they were.
@@ -90,69 +95,84 @@ module _ (part : ℕ) (cells : List ℕ) (d : Device) (e : ℕ) (wp : Bool) wher
   -- In identification mode address 0 shows the maker, BFH, 1 the device, others 0, as the outputs are once the cycle's time has passed; nothing else changes.
   pub identifies : (a : ℕ) → Taken (Read a) → busy (d .core) ≡ false → d .core .mode ≡ Identification
       → gives (Read a) ≡ outcome cells (outputsOf (rowOf part .width) (agedBy (d .core) e .recent) (getD (0xbf ∷ rowOf part .device ∷ []) a 0)) (withCore d (agedBy (d .core) e))
+  unfolding veils
   identifies a z b m =
       let shows : ℕ → Outcome = λ v. outcome cells (outputsOf (rowOf part .width) (agedBy (d .core) e .recent) v) (withCore d (agedBy (d .core) e)) in
-      read-at-rest part cells d a e wp (accepted part (length cells) d (Read a) z) b ∙ (ap (λ (m : Mode). shows (shownOf (rowOf part) cells m a)) m ∙ ap shows (same a))
+      read-at-rest part cells d a e wp (accepted part (length cells) d (Read a) z) b ∙ (rw (clear (rowOf part), m) refl ∙ ap shows (same a))
     where
+      -- nothing is veiled in that mode, in a suspended range too
+      clear : (r : Row) → veils r (d .core) a ≡ false
+      clear r = rw m (pick-same (held (d .core)) false)
+
       same : (a : ℕ) → identity (rowOf part) a ≡ getD (0xbf ∷ rowOf part .device ∷ []) a 0
       same zero = refl
       same (suc zero) = refl
       same (suc (suc a)) = simp (ne-eqb (suc (suc a)) 0 (λ z. omega arith), ne-eqb (suc (suc a)) 1 (λ z. omega arith))
 
-  -- After any cut the device is fresh; a cut at rest changes no cell.
+  -- After any cut the device is fresh.
   pub cut-fresh : (s : ℕ) → Taken (Cut s) → gives (Cut s) .reply .device ≡ freshDevice
   unfolding acceptedOf
   cut-fresh s z = rw (taken (Cut s) z)
 
-  pub cut-at-rest : (s : ℕ) → Taken (Cut s) → busy (d .core) ≡ false → gives (Cut s) ≡ outcome cells 0 freshDevice
-  unfolding acceptedOf cutOf
+  -- A cut leaves what runs, once the cycle's time has passed, scarred (Leaves `scarred-program`, `scarred-erase`), and what is suspended; no other cell changes.
+  pub cut-at-rest : (s : ℕ) → Taken (Cut s) → busy (d .core) ≡ false → gives (Cut s) ≡ outcome (scarsOf (rowOf part) s (d .core .suspended) cells) 0 freshDevice
+  unfolding acceptedOf cutOf cutOn
   cut-at-rest s z b = taken (Cut s) z ∙ rw (rests (rowOf part) cells (d .core) e b) (simp b)
 
-  -- A cut while an operation runs, once the cycle's time has passed, leaves its cells scarred (Leaves `scarred-program`, `scarred-erase`), and no other changed.
   pub cut-busy : (s : ℕ) → Taken (Cut s) → e < d .core .running .left
-      → gives (Cut s) ≡ outcome (over (scarred (rowOf part) (d .core .running) s) (cellsOf (rowOf part) (d .core .running)) cells) 0 freshDevice
+      → gives (Cut s)
+      ≡ outcome (scarsOf (rowOf part) s (d .core .suspended) (over (scarred (rowOf part) (d .core .running) s) (cellsOf (rowOf part) (d .core .running)) cells)) 0 freshDevice
   unfolding acceptedOf settledOf cutOf cutOn cellsOf
   cut-busy s z l =
       let left = d .core .running .left in
       taken (Cut s) z ∙ simp (lt-ltb 0 left (omega arith), lt-ltb e left l, lt-ltb 0 (left - e) (omega arith))
 
 -- ---- of writes in sequence
--- on the lent cells of a known part, at rest, at any stage
+-- on the lent cells of a known part, at rest, at any stage, an erase that is suspended being in range
 module _ (part : ℕ) (cells : List ℕ) (known : partRefusal part ≡ 0) (whole : length cells ≡ rowOf part .cells) (a : ℕ) (there : a < rowOf part .cells)
-    (k : Core) (s e : ℕ) (wp : Bool) (x : ℕ) (b : busy k ≡ false) (le : s ≤ 6) (fits : fitsIn (rowOf part .width) x ≡ true) where
-  -- read mode, no sequence begun, nothing started, the cells as they were
+    (k : Core) (s e : ℕ) (wp : Bool) (x : ℕ) (b : busy k ≡ false) (holds : held k ≡ true → heldInRange (rowOf part) (k .suspended) ≡ true)
+    (le : s ≤ 6) (fits : fitsIn (rowOf part .width) x ≡ true) where
+  -- read mode, no sequence begun, nothing started, what is suspended and the cells as they were
   abbrev Returns : Type 0
   Returns =
       (after part (chip cells (device k s)) (cycle e wp (Write a x)) ≡ chip cells (device (inMode (agedBy k e) ReadMode) 0))
       × (startedBy part (chip cells (device k s)) (cycle e wp (Write a x)) ≡ [])
 
-  breaks : effectOf (rowOf part) s a x ≡ broken → Returns
-  breaks f =
-      let leaves = write-leaves part cells known whole a there k s e wp x b le fits in
-      let starts = write-starts part cells known whole a there k s e wp x b le fits in
+  breaks : resuming k s x ≡ false → effectOf (rowOf part) s a x ≡ broken → Returns
+  breaks still f =
+      let leaves = write-leaves part cells known whole a there k s e wp x b holds still le fits in
+      let starts = write-starts part cells known whole a there k s e wp x b holds still le fits in
       (leaves ∙ rw f, starts ∙ rw f)
 
   -- A write that does not continue the sequence begun, or with none begun is not AAH at U1, ends any that is begun and returns to
-  -- read mode; it is not taken as a first write.
-  pub broken-write : continues (rowOf part) s a x ≡ false → Returns
-  broken-write c = breaks (is-broken (rowOf part) a x s le c)
+  -- read mode; it is not taken as a first write. So while suspended, too, but for the 30H that resumes.
+  pub broken-write : resuming k s x ≡ false → continues (rowOf part) s a x ≡ false → Returns
+  broken-write still c = breaks still (is-broken (rowOf part) a x s le c)
+
+  -- a byte other than 30H resumes nothing, and with a sequence begun none does
+  other-byte : (n : ℕ) → (n ≡ 0x30 → ⊥) → x % 256 ≡ n → resuming k s x ≡ false
+  other-byte n ne q = simp (ne-eqb (x % 256) 0x30 (λ z. ne (sym q ∙ z)), pick-same)
+
+  begun-stays : (s ≡ 0 → ⊥) → resuming k s x ≡ false
+  begun-stays n = simp (ne-eqb s 0 n, pick-same)
 
   -- F0H anywhere, save as program data, among them: at any address it returns to read mode.
   pub reset-returns : (s ≡ 3 → ⊥) → x % 256 ≡ 0xf0 → Returns
-  reset-returns n f = breaks (resets part known a x s le n f)
+  reset-returns n f = breaks (other-byte 0xf0 (λ z. omega arith) f) (resets part known a x s le n f)
 
   -- 50H on parts 1 to 3, which have no blocks, too.
   pub no-block-returns : hasBlocks (rowOf part) ≡ false → s ≡ 6 → x % 256 ≡ rowOf part .«block_code» → Returns
-  no-block-returns h n f = breaks (rw n (no-blocks part known a x h f))
+  no-block-returns h n f = breaks (begun-stays (λ z. omega arith)) (rw n (no-blocks part known a x h f))
 
 -- Starting an operation ends identification mode: the device then is in read mode, no sequence begun, and runs what was started.
 nothing : {A : Type 0} (o : Operation) (os : List Operation) → [] ≡ o ∷ os → A
 nothing o os q = let z : _≡_ {A = ℕ} 0 (suc (length os)) = ap length q in absurd (omega arith)
 
-pub start-ends-modes : (part : ℕ) (h : Chip) (c : Cycle) (o : Operation) (os : List Operation) → startedBy part h c ≡ o ∷ os → after part h c .device ≡ device (core ReadMode o false) 0
+pub start-ends-modes : (part : ℕ) (h : Chip) (c : Cycle) (o : Operation) (os : List Operation) → startedBy part h c ≡ o ∷ os
+    → after part h c .device ≡ device (busyWith (h .device .core) o) 0
 unfolding after startedBy cycleOf acceptedOf writtenOf
 start-ends-modes part h c o os =
-    twice (λ (out : Outcome) (ops : List Operation). ops ≡ o ∷ os → out .reply .device ≡ device (core ReadMode o false) 0)
+    twice (λ (out : Outcome) (ops : List Operation). ops ≡ o ∷ os → out .reply .device ≡ device (busyWith (h .device .core) o) 0)
     (eqb (cycleRefusal part (length (h .cells)) (h .device) (c .action)) 0) _ _ _ _ (λ _. acts (c .action)) (λ _ q. nothing o os q)
   where
     r : Row
@@ -162,22 +182,28 @@ start-ends-modes part h c o os =
     s = afterTime r h (c .elapsed)
 
     Ends : Device → List Operation → Type 0
-    Ends d ops = ops ≡ o ∷ os → d ≡ device (core ReadMode o false) 0
+    Ends d ops = ops ≡ o ∷ os → d ≡ device (busyWith (s .device .core) o) 0
 
-    starts : (k : Core) (wp : Bool) (a x n : ℕ) → Ends (afterEffect r k wp a x (Starts n)) (effectStarts r wp a x (Starts n))
-    starts k wp a x n =
-        sampled (λ (k : Core) (ops : List Operation). Ends (device k 0) ops) r k wp a x n (λ _ q. nothing o os q)
-        (λ _ q. ap (λ (l : List Operation). device (core ReadMode (getD l 0 noOperation) false) 0) q)
+    starts : (wp : Bool) (a x n : ℕ) → let k = s .device .core in Ends (afterEffect r k wp a x (Starts n)) (effectStarts r k wp a x (Starts n))
+    starts wp a x n =
+        sampled (λ (k : Core) (ops : List Operation). Ends (device k 0) ops) r (s .device .core) wp a x n (λ _ q. nothing o os q)
+        (λ _ q. ap (λ (l : List Operation). device (busyWith (s .device .core) (getD l 0 noOperation)) 0) q)
 
-    writes : (d : Device) (wp : Bool) (a x : ℕ) → Ends (writtenOf r d wp a x) (actionStarts r d wp (Write a x))
-    writes d wp a x =
-        twice Ends (busy (d .core)) _ _ _ _ (λ _ q. nothing o os q)
-        (λ _. effect-is (λ (e : Effect). Ends (afterEffect r (d .core) wp a x e) (effectStarts r wp a x e)) r (d .stage) a x
-        (λ _ _ q. nothing o os q) (λ n _. starts (d .core) wp a x n) (λ _ q. nothing o os q))
+    writes : (wp : Bool) (a x : ℕ) → Ends (writtenOf r (s .device) wp a x) (actionStarts r (s .device) wp (Write a x))
+    writes wp a x =
+        let k = s .device .core in
+        twice Ends (busy k) _ _ _ _ (λ _ q. nothing o os q)
+        (λ _. twice Ends (resuming k (s .device .stage) x) _ _ _ _ (λ _ q. nothing o os q)
+        (λ _. effect-is (λ (e : Effect). Ends (afterEffect r k wp a x e) (effectStarts r k wp a x e)) r (s .device .stage) a x
+        (λ _ _ q. nothing o os q) (λ n _. starts wp a x n) (λ _ q. nothing o os q)))
 
-    acts : (a : Action) → Ends (actedOf r s (c .wp) a .reply .device) (actionStarts r (s .device) (c .wp) a)
+    -- what is suspended stands as time passes
+    same : s .device .core .suspended ≡ h .device .core .suspended
+    same = time-holds r (h .cells) (h .device .core) (c .elapsed)
+
+    acts : (a : Action) → actionStarts r (s .device) (c .wp) a ≡ o ∷ os → actedOf r s (c .wp) a .reply .device ≡ device (busyWith (h .device .core) o) 0
     acts (Read a) q = nothing o os q
-    acts (Write a x) q = writes (s .device) (c .wp) a x q
+    acts (Write a x) q = writes (c .wp) a x q ∙ ap (λ (u : Operation). device (core ReadMode false false o u) 0) same
     acts Idle q = nothing o os q
     acts (Cut w) q = nothing o os q
 

@@ -18,9 +18,9 @@ use Rattle.chip.specs.declared.cycle.Action.{Action}
 use Rattle.chip.specs.declared.cycle.Action.the-variants.{Read, Write, Idle, Cut}
 use Rattle.chip.specs.declared.cycle.Cycle.{Cycle}
 use Rattle.chip.specs.Device.{busy}
-use Rattle.chip.specs.Sequence.{ignored}
+use Rattle.chip.specs.Sequence.{passedOver, resuming}
 use Rattle.chip.specs.Cycle.{Chip, cycle, actionRefusal, cycleRefusal, afterTime}
-use Rattle.chip.specs.Trace.{after, play, effectStarts, actionStarts, startedBy, startedIn, uncutAction, uncut}
+use Rattle.chip.specs.Trace.{after, play, effectStarts, actionStarts, startedBy, startedIn, All, uncutAction, uncut}
 use Rattle.chip.proofs.Accepted.{accepted, write-there}
 use Rattle.commands.proofs.Effects.{effect-is}
 
@@ -30,11 +30,7 @@ pub record Startable (r : Row) (o : Operation) : Type 0 where
   pub there : o .address < r .cells
   pub fits : fitsIn (r .width) (o .«data») ≡ true
 
-abbrev pub All : (Operation → Type 0) → List Operation → Type 0
-All P [] = Unit {0}
-All P (o ∷ os) = P o × All P os
-
-all-append : (P : Operation → Type 0) (os ps : List Operation) → All P os → All P ps → All P (os ++ ps)
+pub all-append : (P : Operation → Type 0) (os ps : List Operation) → All P os → All P ps → All P (os ++ ps)
 all-append P [] ps a b = b
 all-append P (o ∷ os) ps a b = (a .0, all-append P os ps (a .1) b)
 
@@ -43,8 +39,9 @@ action-starts r d wp (Read a) z = tt
 action-starts r d wp (Write a x) z =
     let t = write-there r a x z in
     split Good (busy (d .core)) _ _ (λ _. tt)
-    (λ _. effect-is (λ (e : Effect). Good (effectStarts r wp a x e)) r (d .stage) a x (λ _ _. tt)
-    (λ k c. split Good (ignored r wp k a) _ _ (λ _. tt) (λ _. (record { command = c; there = t .0; fits = t .1 }, tt))) (λ _. tt))
+    (λ _. split Good (resuming (d .core) (d .stage) x) _ _ (λ _. tt)
+    (λ _. effect-is (λ (e : Effect). Good (effectStarts r (d .core) wp a x e)) r (d .stage) a x (λ _ _. tt)
+    (λ k c. split Good (passedOver r (d .core) wp k a) _ _ (λ _. tt) (λ _. (record { command = c; there = t .0; fits = t .1 }, tt))) (λ _. tt)))
   where
     Good : List Operation → Type 0
     Good = All (Startable r)

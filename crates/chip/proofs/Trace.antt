@@ -1,4 +1,5 @@
--- The trace law: without a cut, a list of bus cycles leaves what the operations that it starts leave, performed in order.
+-- The trace law: without a cut, a list of bus cycles leaves what the operations that it starts leave, performed in order; suspending and resuming change
+-- nothing of that.
 use Prim.Native.Nat.{ℕ, _-_, _<_}
 use mathlib.Core.Path.{_≡_, refl, sym, ap, _∙_}
 use mathlib.Core.Bool.{Bool, true, false}
@@ -21,31 +22,35 @@ use Rattle.chip.specs.declared.cycle.Action.{Action}
 use Rattle.chip.specs.declared.cycle.Action.the-variants.{Read, Write, Idle, Cut}
 use Rattle.chip.specs.declared.cycle.Cycle.{Cycle}
 use Rattle.chip.specs.declared.cycle.Shown.{Shown}
-use Rattle.chip.specs.Device.{busy}
+use Rattle.chip.specs.Device.{busyWith, suspend, resume, busy, held, barred, device, withCore, idle}
+use Rattle.chip.specs.Recent.{later}
 use Rattle.chip.specs.Operation.{cellsOf, completeOn}
 use Rattle.commands.specs.Commands.{effectOf}
-use Rattle.chip.specs.Sequence.{coreAfter, writtenOf}
-use Rattle.chip.specs.Cycle.{Chip, Outcome, Settled, settledOf, afterTime, readOf, actedOf, cycleRefusal, acceptedOf, cycleOf}
-use Rattle.chip.specs.Trace.{leaves, after, play, effectStarts, actionStarts, startedBy, startedIn, completeAll, uncutAction, uncut}
-use Rattle.chip.proofs.Accepted.{Accepted, accepted}
-use Rattle.chip.proofs.Sampled.{twice, sampled}
+use Rattle.chip.specs.Sequence.{newOperation, suspending, resuming, afterEffect, writtenOf}
+use Rattle.chip.specs.Cycle.{Chip, chip, Outcome, Settled, settledOf, afterTime, readOf, actedOf, cycleRefusal, acceptedOf, cycleOf}
+use Rattle.chip.specs.Trace.{leaves, after, play, effectStarts, actionStarts, startedBy, startedIn, completeAll, coming, uncutAction, uncut}
+use Rattle.chip.proofs.Accepted.{Accepted, accepted, Ranged, ranged, ranges}
+use Rattle.chip.proofs.Idle.{idle-is, idle-rests, idle-free, idle-later}
+use Rattle.chip.proofs.Settled.{after-time-range}
+use Rattle.chip.proofs.Sampled.{twice, sampled, heeded}
+use Rattle.chip.proofs.Apart.{beside, alone, commutes}
 use Rattle.commands.proofs.Effects.{effect-is}
 
 -- every command takes some time
-timely : (part : ℕ) → partRefusal part ≡ 0 → (k : ℕ) → hasCommand (rowOf part) k ≡ true → 0 < timeOf (rowOf part) k
+pub timely : (part : ℕ) → partRefusal part ≡ 0 → (k : ℕ) → hasCommand (rowOf part) k ≡ true → 0 < timeOf (rowOf part) k
 unfolding hasCommand
 timely part known k c = time-some part known k (ltb-false 3 k (unless _ _ c .0))
 
--- the cells as they will be once the operation that is pending has completed
-unfoldable coming : Row → List ℕ → Core → List ℕ
-coming r cells k = pick (busy k) (completeOn r (k .running) cells) cells
-
-abbrev comingTo : Row → Chip → List ℕ
-comingTo r h = coming r (h .cells) (h .device .core)
-
 -- ---- what is to come, as time passes and cycles act
-module _ (r : Row) (cells : List ℕ) (k : Core) where
-  settled-coming : (e : ℕ) → coming r (settledOf r cells k e .cells) (settledOf r cells k e .core) ≡ coming r cells k
+module _ (r : Row) (cells : List ℕ) (d : Device) where
+  abbrev k : Core
+  k = d .core
+
+  -- the chip with another core, and with another device
+  abbrev with : Core → Chip
+  with n = chip cells (withCore d n)
+
+  settled-coming : (e : ℕ) → coming r (afterTime r (chip cells d) e) ≡ coming r (chip cells d)
   unfolding coming settledOf completeOn cellsOf
   settled-coming e =
       split Same (busy k) _ _
@@ -55,32 +60,54 @@ module _ (r : Row) (cells : List ℕ) (k : Core) where
       (λ _. refl)
     where
       Same : Settled → Type 0
-      Same s = coming r (s .cells) (s .core) ≡ coming r cells k
+      Same s = coming r (chip (s .cells) (withCore d (s .core))) ≡ coming r (chip cells d)
 
-  read-coming : (a : ℕ) → coming r cells (readOf r cells k a .core) ≡ coming r cells k
+  read-coming : (a : ℕ) → coming r (with (readOf r cells k a .core)) ≡ coming r (chip cells d)
   unfolding coming readOf completeOn cellsOf
-  read-coming a = split (λ (s : Shown). coming r cells (s .core) ≡ coming r cells k) (busy k) _ _ (λ _. refl) (λ _. refl)
+  read-coming a = split (λ (s : Shown). coming r (with (s .core)) ≡ coming r (chip cells d)) (busy k) _ _ (λ _. refl) (λ _. refl)
 
-  -- after an effect on a core at rest: what it starts, performed
-  effect-coming : (s : ℕ) (wp : Bool) (a x : ℕ) → ((c : ℕ) → hasCommand r c ≡ true → 0 < timeOf r c) → busy k ≡ false
-      → coming r cells (coreAfter r k wp a x (effectOf r s a x)) ≡ completeAll r (effectStarts r wp a x (effectOf r s a x)) (coming r cells k)
+  suspend-coming : held k ≡ false → coming r (chip cells (device (suspend k) 0)) ≡ coming r (chip cells d)
+  unfolding coming completeOn cellsOf
+  suspend-coming n = rw n
+
+  resume-coming : busy k ≡ false → coming r (chip cells (device (resume k) 0)) ≡ coming r (chip cells d)
+  unfolding coming completeOn cellsOf
+  resume-coming z = rw z
+
+  -- a start beside a suspended erase: a program outside its range, so that the order does not matter
+  start-coming : (c a x : ℕ) → busy k ≡ false → 0 < timeOf r c → barred r (k .suspended) c a ≡ false
+      → coming r (chip cells (device (busyWith k (newOperation r c a x)) 0)) ≡ completeOn r (newOperation r c a x) (coming r (chip cells d))
   unfolding coming
-  effect-coming s wp a x time b =
-      effect-is (λ (e : Effect). Comes (coreAfter r k wp a x e) (effectStarts r wp a x e)) r s a x (λ _ _. refl)
-      (λ c h. sampled Comes r k wp a x c (λ _. refl) (λ _. rw (b, lt-ltb 0 (timeOf r c) (time c h)))) (λ _. refl)
+  start-coming c a x z t f = rw (z, lt-ltb 0 (timeOf r c) t) (by (held k) refl)
     where
-      Comes : Core → List Operation → Type 0
-      Comes n os = coming r cells n ≡ completeAll r os (coming r cells k)
+      o : Operation
+      o = newOperation r c a x
 
-acted-coming : (r : Row) (h : Chip) (wp : Bool) (a : Action) → ((c : ℕ) → hasCommand r c ≡ true → 0 < timeOf r c) → uncutAction a ≡ true
-    → comingTo r (leaves (actedOf r h wp a)) ≡ completeAll r (actionStarts r (h .device) wp a) (comingTo r h)
-unfolding writtenOf
-acted-coming r h wp (Read a) time u = read-coming r (h .cells) (h .device .core) a
-acted-coming r h wp (Write a x) time u =
-    twice (λ (d : Device) (os : List Operation). coming r (h .cells) (d .core) ≡ completeAll r os (comingTo r h)) (busy (h .device .core)) (h .device) _ [] _ (λ _. refl)
-    (λ b. effect-coming r (h .cells) (h .device .core) (h .device .stage) wp a x time b)
-acted-coming r h wp Idle time u = refl
-acted-coming r h wp (Cut s) time u = apart u
+      by : (b : Bool) → held k ≡ b → pick b (completeOn r (k .suspended) (completeOn r o cells)) (completeOn r o cells) ≡ completeOn r o (pick b (completeOn r (k .suspended) cells) cells)
+      by true y = let w = beside r (k .suspended) c a f y in commutes r o (k .suspended) (w .0) (w .1) cells
+      by false y = refl
+
+  module _ (time : (c : ℕ) → hasCommand r c ≡ true → 0 < timeOf r c) (w : Ranged r k) where
+    written-coming : (wp : Bool) (a x : ℕ) → coming r (chip cells (writtenOf r d wp a x)) ≡ completeAll r (actionStarts r d wp (Write a x)) (coming r (chip cells d))
+    unfolding writtenOf coming
+    written-coming wp a x =
+        twice Comes (busy k) _ _ _ _
+        (λ b. split (λ (e : Device). Comes e []) (suspending r k x) (device (suspend k) 0) d
+        (λ s. suspend-coming (alone r (k .suspended) (k .running .kind) (k .running .address) (both _ _ s .0) (w .runs b .free))) (λ _. refl))
+        (λ z. twice Comes (resuming k (d .stage) x) _ _ _ _ (λ _. resume-coming z)
+        (λ _. effect-is (λ (e : Effect). Comes (afterEffect r k wp a x e) (effectStarts r k wp a x e)) r (d .stage) a x (λ _ _. refl)
+        (λ c h. sampled (λ (n : Core) (os : List Operation). Comes (device n 0) os) r k wp a x c (λ _. refl) (λ p. start-coming c a x z (time c h) (heeded r k wp c a p .0)))
+        (λ _. refl)))
+      where
+        Comes : Device → List Operation → Type 0
+        Comes e os = coming r (chip cells e) ≡ completeAll r os (coming r (chip cells d))
+
+    acted-coming : (wp : Bool) (a : Action) → uncutAction a ≡ true
+        → coming r (leaves (actedOf r (chip cells d) wp a)) ≡ completeAll r (actionStarts r d wp a) (coming r (chip cells d))
+    acted-coming wp (Read a) u = read-coming a
+    acted-coming wp (Write a x) u = written-coming wp a x
+    acted-coming wp Idle u = refl
+    acted-coming wp (Cut s) u = apart u
 
 complete-append : (r : Row) (os ps : List Operation) (cells : List ℕ) → completeAll r (os ++ ps) cells ≡ completeAll r ps (completeAll r os cells)
 complete-append r [] ps cells = refl
@@ -88,10 +115,10 @@ complete-append r (o ∷ os) ps cells = complete-append r os ps (completeOn r o 
 
 -- one cycle
 cycle-coming : (part : ℕ) (h : Chip) (c : Cycle) → uncutAction (c .action) ≡ true
-    → comingTo (rowOf part) (after part h c) ≡ completeAll (rowOf part) (startedBy part h c) (comingTo (rowOf part) h)
+    → coming (rowOf part) (after part h c) ≡ completeAll (rowOf part) (startedBy part h c) (coming (rowOf part) h)
 unfolding after startedBy cycleOf acceptedOf
 cycle-coming part h c u =
-    twice (λ (o : Outcome) (os : List Operation). comingTo r (leaves o) ≡ completeAll r os (comingTo r h)) (eqb (cycleRefusal part (length (h .cells)) (h .device) (c .action)) 0) _ _ _ _
+    twice (λ (o : Outcome) (os : List Operation). coming r (leaves o) ≡ completeAll r os (coming r h)) (eqb (cycleRefusal part (length (h .cells)) (h .device) (c .action)) 0) _ _ _ _
     (λ e. acts (accepted part _ _ _ (eqb-true _ _ e))) (λ _. refl)
   where
     r : Row
@@ -101,29 +128,29 @@ cycle-coming part h c u =
     s = afterTime r h (c .elapsed)
 
     acts : Accepted part (length (h .cells)) (h .device) (c .action)
-        → comingTo r (leaves (actedOf r s (c .wp) (c .action))) ≡ completeAll r (actionStarts r (s .device) (c .wp) (c .action)) (comingTo r h)
+        → coming r (leaves (actedOf r s (c .wp) (c .action))) ≡ completeAll r (actionStarts r (s .device) (c .wp) (c .action)) (coming r h)
     acts w =
-        acted-coming r s (c .wp) (c .action) (timely part (w .known)) u
-        ∙ ap (completeAll r (actionStarts r (s .device) (c .wp) (c .action))) (settled-coming r (h .cells) (h .device .core) (c .elapsed))
+        acted-coming r (s .cells) (s .device) (timely part (w .known)) (ranged r (s .device .core) (ranges r (s .device) (after-time-range r h (c .elapsed) (w .state)) .1)) (c .wp) (c .action) u
+        ∙ ap (completeAll r (actionStarts r (s .device) (c .wp) (c .action))) (settled-coming r (h .cells) (h .device) (c .elapsed))
 
--- a list of cycles
-trace-coming : (part : ℕ) (cs : List Cycle) (h : Chip) → uncut cs ≡ true
-    → comingTo (rowOf part) (play part h cs) ≡ completeAll (rowOf part) (startedIn part h cs) (comingTo (rowOf part) h)
+-- THE TRACE LAW: without a cut a list of cycles leaves the cells to come as the operations that it starts leave them, performed in order
+pub trace-coming : (part : ℕ) (cs : List Cycle) (h : Chip) → uncut cs ≡ true
+    → coming (rowOf part) (play part h cs) ≡ completeAll (rowOf part) (startedIn part h cs) (coming (rowOf part) h)
 trace-coming part [] h u = refl
 trace-coming part (c ∷ cs) h u =
     let w = both (uncutAction (c .action)) (uncut cs) u in
     trace-coming part cs (after part h c) (w .1)
     ∙ (ap (completeAll (rowOf part) (startedIn part (after part h c) cs)) (cycle-coming part h c (w .0))
-    ∙ sym (complete-append (rowOf part) (startedBy part h c) (startedIn part (after part h c) cs) (comingTo (rowOf part) h)))
+    ∙ sym (complete-append (rowOf part) (startedBy part h c) (startedIn part (after part h c) cs) (coming (rowOf part) h)))
 
--- at rest: nothing to come
-rest-coming : (r : Row) (h : Chip) → busy (h .device .core) ≡ false → comingTo r h ≡ h .cells
+-- on a device that is idle, or is so some time later, there is nothing to come
+none-coming : (r : Row) (h : Chip) → idle (later (h .device)) ≡ true → coming r h ≡ h .cells
 unfolding coming
-rest-coming r h b = rw b
+none-coming r h i = let j = idle-is (later (h .device)) i .1 in rw (idle-rests (later (h .device) .core) j, idle-free (later (h .device) .core) j)
 
--- THE TRACE LAW: without a cut, from a device on which nothing runs, as on an idle one, to such a device
-pub trace : (part : ℕ) (cs : List Cycle) (h : Chip) → uncut cs ≡ true → busy (h .device .core) ≡ false → busy (play part h cs .device .core) ≡ false
+-- so from an idle device to one that is idle, or is so some time later, the cells are as those operations leave them
+pub trace : (part : ℕ) (cs : List Cycle) (h : Chip) → uncut cs ≡ true → idle (h .device) ≡ true → idle (later (play part h cs .device)) ≡ true
     → play part h cs .cells ≡ completeAll (rowOf part) (startedIn part h cs) (h .cells)
-trace part cs h u b e =
-    sym (rest-coming (rowOf part) (play part h cs) e)
-    ∙ (trace-coming part cs h u ∙ ap (completeAll (rowOf part) (startedIn part h cs)) (rest-coming (rowOf part) h b))
+trace part cs h u i e =
+    sym (none-coming (rowOf part) (play part h cs) e)
+    ∙ (trace-coming part cs h u ∙ ap (completeAll (rowOf part) (startedIn part h cs)) (none-coming (rowOf part) h (ap idle (idle-later (h .device) i) ∙ i)))

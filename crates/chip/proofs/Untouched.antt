@@ -31,13 +31,14 @@ use Rattle.chip.specs.declared.cycle.Action.the-variants.{Read, Write, I
 use Rattle.chip.specs.declared.cycle.Cycle.{Cycle}
 use Rattle.chip.specs.declared.cycle.Shown.{Shown}
 use Rattle.commands.specs.declared.effect.Effect.{Effect}
-use Rattle.chip.specs.Device.{busy}
+use Rattle.chip.specs.Device.{pending, suspend, resume, busy, held, device}
 use Rattle.chip.specs.Operation.{cellsOf, over, finished, scarred, completeOn, cutOn}
-use Rattle.chip.specs.Sequence.{ignored, newOperation, afterEffect, writtenOf}
-use Rattle.chip.specs.Cycle.{Chip, Settled, Outcome, settledOf, afterTime, readOf, cutOf, actedOf, acceptedOf, cycleRefusal, cycleOf}
+use Rattle.chip.specs.Sequence.{ignored, newOperation, suspending, resuming, afterEffect, writtenOf}
+use Rattle.chip.specs.Cycle.{Chip, Settled, Outcome, settledOf, afterTime, readOf, cutShort, cutOf, actedOf, acceptedOf, cycleRefusal, cycleOf}
 use Rattle.chip.specs.Trace.{after, play, uncutAction, uncut}
-use Rattle.chip.proofs.Sampled.{sampled}
-use Rattle.chip.proofs.Accepted.{Accepted, accepted, busy-valid, ranges}
+use Rattle.chip.proofs.Sampled.{sampled, heeded}
+use Rattle.chip.proofs.Apart.{over-elsewhere, outside}
+use Rattle.chip.proofs.Accepted.{Accepted, accepted, Ranged, ranged, held-fits, busy-valid, ranges}
 use Rattle.chip.proofs.Settled.{after-time-range}
 use Rattle.commands.proofs.Effects.{effect-is}
 
@@ -58,19 +59,6 @@ module _ (f : ℕ → ℕ) where
   over-or (suc first) (suc count) a [] = inl refl
   over-or (suc first) count zero (x ∷ xs) = inl refl
   over-or (suc first) count (suc a) (x ∷ xs) = over-or first count a xs
-
-  front-elsewhere : (n a : ℕ) (cells : List ℕ) → n ≤ a → getD (map f (take n cells) ++ drop n cells) a 0 ≡ getD cells a 0
-  front-elsewhere zero a cells h = refl
-  front-elsewhere (suc n) a [] h = refl
-  front-elsewhere (suc n) zero (x ∷ xs) h = absurd (not-suc-le-zero h)
-  front-elsewhere (suc n) (suc a) (x ∷ xs) h = front-elsewhere n a xs (le-of-suc-le-suc h)
-
-  over-elsewhere : (first count a : ℕ) (cells : List ℕ) → (a < first) ⊎ (first + count ≤ a) → getD (over f (span first count) cells) a 0 ≡ getD cells a 0
-  over-elsewhere zero count a cells h = ⊎-elim (λ l. absurd (not-suc-le-zero l)) (λ l. front-elsewhere count a cells (omega arith)) h
-  over-elsewhere (suc first) zero a [] h = refl
-  over-elsewhere (suc first) (suc count) a [] h = refl
-  over-elsewhere (suc first) count zero (x ∷ xs) h = refl
-  over-elsewhere (suc first) count (suc a) (x ∷ xs) h = over-elsewhere first count a xs (⊎-elim (λ l. inl (le-of-suc-le-suc l)) (λ l. inr (omega arith)) h)
 
 -- ---- each cell is as it was, or below two to the width
 abbrev pub KeptOrFits : ℕ → List ℕ → List ℕ → Type 0
@@ -98,7 +86,7 @@ module _ (r : Row) (o : Operation) (fits : fitsIn (r .width) (o .«data») ≡ t
       (λ _. or-lt (r .width) (valueOf (r .width) x) (valueOf (r .width) scar) (value-lt (r .width) x) mark)
 
 -- time, and what acts, with an operation pending whose data fits
-time-stores : (r : Row) (cells : List ℕ) (k : Core) (e : ℕ) → (busy k ≡ true → fitsIn (r .width) (k .running .«data») ≡ true) → KeptOrFits (r .width) cells (settledOf r cells k e .cells)
+time-stores : (r : Row) (cells : List ℕ) (k : Core) (e : ℕ) → (pending (k .running) ≡ true → fitsIn (r .width) (k .running .«data») ≡ true) → KeptOrFits (r .width) cells (settledOf r cells k e .cells)
 unfolding settledOf completeOn
 time-stores r cells k e fits =
     split Stores (busy k) _ _
@@ -109,16 +97,26 @@ time-stores r cells k e fits =
     Stores : Settled → Type 0
     Stores s = KeptOrFits (r .width) cells (s .cells)
 
-acts-store : (r : Row) (h : Chip) (wp : Bool) (a : Action) → (busy (h .device .core) ≡ true → fitsIn (r .width) (h .device .core .running .«data») ≡ true)
+-- an operation's data fits where it is pending
+abbrev Fits : Row → Operation → Type 0
+Fits r o = pending o ≡ true → fitsIn (r .width) (o .«data») ≡ true
+
+cut-stores : (r : Row) (o : Operation) (s : ℕ) (cells : List ℕ) → Fits r o → KeptOrFits (r .width) cells (cutShort r o s cells)
+unfolding cutOn
+cut-stores r o s cells fits =
+    split (λ (l : List ℕ). KeptOrFits (r .width) cells l) (pending o) _ _
+    (λ b. over-fits (r .width) (scarred r o s) (cellsOf r o) cells (scarred-lt r o (fits b) s)) (λ _. kept (r .width) cells)
+
+acts-store : (r : Row) (h : Chip) (wp : Bool) (a : Action) → Fits r (h .device .core .running) → Fits r (h .device .core .suspended)
     → KeptOrFits (r .width) (h .cells) (actedOf r h wp a .cells)
-unfolding cutOf cutOn
-acts-store r h wp (Read a) fits = kept (r .width) (h .cells)
-acts-store r h wp (Write a x) fits = kept (r .width) (h .cells)
-acts-store r h wp Idle fits = kept (r .width) (h .cells)
-acts-store r h wp (Cut s) fits =
-    let o = h .device .core .running in
-    split (λ (l : List ℕ). KeptOrFits (r .width) (h .cells) l) (busy (h .device .core)) _ _
-    (λ b. over-fits (r .width) (scarred r o s) (cellsOf r o) (h .cells) (scarred-lt r o (fits b) s)) (λ _. kept (r .width) (h .cells))
+unfolding cutOf
+acts-store r h wp (Read a) runs holds = kept (r .width) (h .cells)
+acts-store r h wp (Write a x) runs holds = kept (r .width) (h .cells)
+acts-store r h wp Idle runs holds = kept (r .width) (h .cells)
+acts-store r h wp (Cut s) runs holds =
+    let k = h .device .core in
+    let cells = cutShort r (k .running) s (h .cells) in
+    then (r .width) (h .cells) cells (cutShort r (k .suspended) s cells) (cut-stores r (k .running) s (h .cells) runs) (cut-stores r (k .suspended) s cells holds)
 
 -- On eight-bit parts the chip stores only values below 256: an accepted cycle leaves each cell as it was, or below two to the width.
 pub stores-values : (part : ℕ) (h : Chip) (c : Cycle) → KeptOrFits (rowOf part .width) (h .cells) (after part h c .cells)
@@ -140,18 +138,12 @@ stores-values part h c =
     stores t =
         then w (h .cells) (s .cells) (actedOf r s (c .wp) (c .action) .cells)
         (time-stores r (h .cells) (h .device .core) (c .elapsed) (λ b. busy-valid r (h .device .core) (ranges r (h .device) (t .state) .1) b .fits))
-        (acts-store r s (c .wp) (c .action) (λ b. busy-valid r (s .device .core) (ranges r (s .device) (after-time-range r h (c .elapsed) (t .state)) .1) b .fits))
+        (acts-store r s (c .wp) (c .action) (λ b. then-ranged .runs b .fits) (λ b. held-fits r (s .device .core .suspended) (then-ranged .holds b)))
+      where
+        then-ranged : Ranged r (s .device .core)
+        then-ranged = ranged r (s .device .core) (ranges r (s .device) (after-time-range r h (c .elapsed) (t .state)) .1)
 
 -- ---- what WP# low protects
--- a cell that a range does not hold lies outside it
-outside : (s : Span) (i : ℕ) → holdsb s i ≡ false → (i < s .first) ⊎ (s .first + s .count ≤ i)
-unfolding holdsb
-outside s i = by (ltb i (s .first)) refl
-  where
-    by : (b : Bool) → ltb i (s .first) ≡ b → pick b false (ltb (i - s .first) (s .count)) ≡ false → (i < s .first) ⊎ (s .first + s .count ≤ i)
-    by true e h = inl (ltb-true i (s .first) e)
-    by false e h = let l = ltb-false i (s .first) e in let m = ltb-false (i - s .first) (s .count) h in inr (omega arith)
-
 not-true : (b : Bool) → (b ≡ true → ⊥) → b ≡ false
 not-true true h = absurd (h refl)
 not-true false h = refl
@@ -225,9 +217,12 @@ module _ (part : ℕ) (known : partRefusal part ≡ 0) (i : ℕ) (protected : ho
           let z = ltb-false 0 (protectedOf r .count) none in
           omega (arith, w .0, w .1)
 
-  -- what runs is not of that cell
+  -- neither what runs nor what is suspended is of that cell
+  abbrev Spared : Operation → Type 0
+  Spared o = pending o ≡ true → holdsb (cellsOf r o) i ≡ false
+
   abbrev Spares : Core → Type 0
-  Spares k = busy k ≡ true → holdsb (cellsOf r (k .running)) i ≡ false
+  Spares k = Spared (k .running) × Spared (k .suspended)
 
   -- a core that spares the cell, and cells that hold there what they held
   abbrev Safe : List ℕ → List ℕ → Core → Type 0
@@ -237,19 +232,28 @@ module _ (part : ℕ) (known : partRefusal part ≡ 0) (i : ℕ) (protected : ho
   unfolding settledOf completeOn cellsOf
   time-safe cells k e s =
       split Kept (busy k) _ _
-      (λ b. split Kept (ltb e (k .running .left)) _ _ (λ _. (refl, λ _. s b))
-      (λ _. (over-elsewhere (finished r (k .running)) (cellsOf r (k .running) .first) (cellsOf r (k .running) .count) i cells (outside (cellsOf r (k .running)) i (s b)), λ h. apart h)))
+      (λ b. split Kept (ltb e (k .running .left)) _ _ (λ _. (refl, (λ _. s .0 b, s .1)))
+      (λ _. (
+        over-elsewhere (finished r (k .running)) (cellsOf r (k .running) .first) (cellsOf r (k .running) .count) i cells (outside (cellsOf r (k .running)) i (s .0 b)),
+        (λ h. apart h, s .1),
+      )))
       (λ _. (refl, s))
     where
       Kept : Settled → Type 0
       Kept t = Safe cells (t .cells) (t .core)
 
   write-safe : (d : Device) (a x : ℕ) → Spares (d .core) → Spares (writtenOf r d false a x .core)
-  unfolding writtenOf
+  unfolding writtenOf cellsOf
   write-safe d a x s =
-      split (λ (n : Device). Spares (n .core)) (busy (d .core)) _ _ (λ _. s)
-      (λ _. effect-is (λ (e : Effect). Spares (afterEffect r (d .core) false a x e .core)) r (d .stage) a x (λ _ _. s)
-      (λ c h. sampled (λ (k : Core) (ops : List Operation). Spares k) r (d .core) false a x c (λ _. s) (λ g _. spared (newOperation r c a x) h g)) (λ _. s))
+      split Safely (busy (d .core)) _ _
+      (λ b. split Safely (suspending r (d .core) x) (device (suspend (d .core)) 0) d (λ _. (λ h. apart h, λ _. s .0 b)) (λ _. s))
+      (λ _. split Safely (resuming (d .core) (d .stage) x) (device (resume (d .core)) 0) _ (λ _. (s .1, λ h. apart h))
+      (λ _. effect-is (λ (e : Effect). Safely (afterEffect r (d .core) false a x e)) r (d .stage) a x (λ _ _. s)
+      (λ c h. sampled (λ (k : Core) (ops : List Operation). Spares k) r (d .core) false a x c (λ _. s)
+      (λ g. (λ _. spared (newOperation r c a x) h (heeded r (d .core) false c a g .1), s .1))) (λ _. s)))
+    where
+      Safely : Device → Type 0
+      Safely n = Spares (n .core)
 
   acts-safe : (h : Chip) (a : Action) → uncutAction a ≡ true → Spares (h .device .core) → Safe (h .cells) (actedOf r h false a .cells) (actedOf r h false a .reply .device .core)
   unfolding readOf cellsOf
@@ -266,8 +270,8 @@ module _ (part : ℕ) (known : partRefusal part ≡ 0) (i : ℕ) (protected : ho
       let a = acts-safe (afterTime r h (c .elapsed)) (c .action) u (t .1) in
       rw low (a .0 ∙ t .0, a .1)) (λ _. (refl, s))
 
-  -- WP# low protects: over any list of cycles with WP# low and without a cut, from a device on which nothing is pending, a protected
-  -- cell is what it was, whatever is programmed or erased: cell, sector, block or chip.
+  -- WP# low protects: over any list of cycles with WP# low and without a cut, from a device on which nothing is pending, running or suspended, a
+  -- protected cell is what it was, whatever is programmed or erased: cell, sector, block or chip.
   pub protects : (cs : List Cycle) (h : Chip) → lows cs ≡ true → uncut cs ≡ true → Spares (h .device .core) → getD (play part h cs .cells) i 0 ≡ getD (h .cells) i 0
   protects [] h low u s = refl
   protects (c ∷ cs) h low u s =
@@ -276,5 +280,6 @@ module _ (part : ℕ) (known : partRefusal part ≡ 0) (i : ℕ) (protected : ho
       let t = cycle-safe h c (l .0) (w .0) s in
       protects cs (after part h c) (l .1) (w .1) (t .1) ∙ t .0
 
-  pub protects-at-rest : (cs : List Cycle) (h : Chip) → lows cs ≡ true → uncut cs ≡ true → busy (h .device .core) ≡ false → getD (play part h cs .cells) i 0 ≡ getD (h .cells) i 0
-  protects-at-rest cs h low u b = protects cs h low u (λ e. apart (sym b ∙ e))
+  pub protects-at-rest : (cs : List Cycle) (h : Chip) → lows cs ≡ true → uncut cs ≡ true → busy (h .device .core) ≡ false → held (h .device .core) ≡ false
+      → getD (play part h cs .cells) i 0 ≡ getD (h .cells) i 0
+  protects-at-rest cs h low u b n = protects cs h low u (λ e. apart (sym b ∙ e), λ e. apart (sym n ∙ e))

@@ -1,13 +1,14 @@
 -- One bus cycle: refusals in order; then time passes; then the cycle acts.
 use Prim.Native.Nat.{ℕ, _+_, _-_, _*_, _/_, _%_}
-use mathlib.Core.Bool.{Bool}
+use mathlib.Core.Bool.{Bool, true, false, not}
 use mathlib.Core.List.{List}
 use lib.Dec.{eqb, ltb}
 use lib.ListN.{length, getD}
 use lib.Bits.{bitXor}
-use Rattle.parts.specs.Names.{PROGRAM, BIT-7, BIT-6, WRONG-CELLS, NO-ADDRESS, WIDE-DATA, BAD-STATE}
+use Rattle.parts.specs.Names.{PROGRAM, BIT-7, BIT-6, BIT-2, WRONG-CELLS, NO-ADDRESS, WIDE-DATA, BAD-STATE}
 use Rattle.parts.specs.Pick.{pick, _unless_, _else_, _orElse_}
 use Rattle.parts.specs.Width.{valueOf, blankOf, fitsIn}
+use Rattle.parts.specs.Span.{holdsb}
 use Rattle.parts.specs.Table.{rowOf, foundOf}
 use Rattle.parts.specs.declared.table.Row.{Row}
 use Rattle.parts.specs.declared.table.Found.{Found}
@@ -21,8 +22,8 @@ use Rattle.chip.specs.declared.cycle.Action.the-variants.{Read, Write, I
 use Rattle.chip.specs.declared.cycle.Cycle.{Cycle}
 use Rattle.chip.specs.declared.cycle.Reply.{Reply}
 use Rattle.chip.specs.declared.cycle.Shown.{Shown}
-use Rattle.chip.specs.Device.{withLeft, toggled, withRunning, atRest, agedBy, busy, withCore, freshDevice, deviceInRange}
-use Rattle.chip.specs.Operation.{completeOn, cutOn}
+use Rattle.chip.specs.Device.{withLeft, toggled, pending, withTurned, withRunning, atRest, agedBy, busy, held, reads, withCore, freshDevice, deviceInRange}
+use Rattle.chip.specs.Operation.{cellsOf, completeOn, cutOn}
 use Rattle.chip.specs.Sequence.{writtenOf}
 
 -- a cycle: the µs since the last one, the WP# level, and what it does
@@ -66,7 +67,7 @@ cycleRefusalOn f lent d a =
 unfoldable pub cycleRefusal : ℕ → ℕ → Device → Action → ℕ
 cycleRefusal part lent d a = cycleRefusalOn (foundOf part) lent d a
 
--- ---- time passes: with e below what is left the rest is left, otherwise the operation completes on the cells, 0 µs ago where e is what was left
+-- ---- time passes for what runs; for what is suspended it stands still. With e below what is left the rest is left, otherwise the operation completes on the cells, 0 µs ago where e is what was left
 pub record Settled : Type 0 where
   pub cells : List ℕ
   pub core : Core
@@ -97,17 +98,38 @@ bit7 o = pick (eqb (o .kind) PROGRAM) (1 - o .«data» / BIT-7 % 2) 0
 abbrev pub bit6 : Operation → ℕ
 bit6 o = pick (o .toggle) 1 0
 
-abbrev pub status : Operation → ℕ
-status o = bit7 o * BIT-7 + bit6 o * BIT-6
+-- bit 2 tells of an erase, at the addresses of its range, on the parts that can suspend one
+unfoldable pub tells : Row → Operation → ℕ → Bool
+tells r o a = pick (r .suspends) (pick (eqb (o .kind) PROGRAM) false (holdsb (cellsOf r o) a)) false
+
+-- bit 2 where it tells of an erase; elsewhere 0
+abbrev pub bit2 : Core → Bool → ℕ
+bit2 k t = pick t (pick (k .turned) 0 1) 0
+
+-- a read that shows bit 2 turns it over
+abbrev pub turnedBy : Core → Bool → Core
+turnedBy k t = withTurned k (pick t (not (k .turned)) (k .turned))
+
+-- what a busy read shows
+abbrev pub status : Row → Core → ℕ → ℕ
+status r k a = bit7 (k .running) * BIT-7 + bit6 (k .running) * BIT-6 + bit2 k (tells r (k .running) a) * BIT-2
 
 -- in identification mode address 0 shows the maker, BFH, 1 the device, others 0
 abbrev pub identity : Row → ℕ → ℕ
 identity r a = pick (eqb a 0) 0xbf (pick (eqb a 1) (r .device) 0)
 
--- at rest: the cell's value, or the identity
-abbrev pub shownOf : Row → List ℕ → Mode → ℕ → ℕ
-shownOf r cells ReadMode a = valueOf (r .width) (getD cells a 0)
-shownOf r cells Identification a = identity r a
+-- at rest with nothing suspended: the cell's value, or the identity
+abbrev pub modeShows : Row → List ℕ → Mode → ℕ → ℕ
+modeShows r cells ReadMode a = valueOf (r .width) (getD cells a 0)
+modeShows r cells Identification a = identity r a
+
+-- in read mode a suspended erase veils its range
+unfoldable pub veils : Row → Core → ℕ → Bool
+veils r k a = pick (held k) (pick (reads (k .mode)) (tells r (k .suspended) a) false) false
+
+-- at rest: in a veiled range bits 7 and 6 are 1, bit 2 alternates, the others are 0
+abbrev pub shownOf : Row → List ℕ → Core → ℕ → ℕ
+shownOf r cells k a = pick (veils r k a) (BIT-7 + BIT-6 + bit2 k true * BIT-2) (modeShows r cells (k .mode) a)
 
 -- all the part's bits but 7 inverted
 abbrev pub inverted : ℕ → ℕ → ℕ
@@ -123,12 +145,15 @@ showing v k = record { value = v; core = k }
 
 unfoldable pub readOf : Row → List ℕ → Core → ℕ → Shown
 readOf r cells k a =
-    pick (busy k) (showing (status (k .running)) (withRunning k (toggled (k .running))))
-    (showing (outputsOf (r .width) (k .recent) (shownOf r cells (k .mode) a)) k)
+    pick (busy k) (showing (status r k a) (turnedBy (withRunning k (toggled (k .running))) (tells r (k .running) a)))
+    (showing (outputsOf (r .width) (k .recent) (shownOf r cells k a)) (turnedBy k (veils r k a)))
 
--- ---- a power cut: the cells that it leaves, an operation being cut short
+-- ---- a power cut: the cells that it leaves, what runs and what is suspended being cut short
+abbrev pub cutShort : Row → Operation → ℕ → List ℕ → List ℕ
+cutShort r o s cells = pick (pending o) (cutOn r o s cells) cells
+
 unfoldable pub cutOf : Row → List ℕ → Core → ℕ → List ℕ
-cutOf r cells k s = pick (busy k) (cutOn r (k .running) s cells) cells
+cutOf r cells k s = cutShort r (k .suspended) s (cutShort r (k .running) s cells)
 
 -- ---- the cycle acts; after any cut the device is fresh
 abbrev pub actedOf : Row → Chip → Bool → Action → Outcome

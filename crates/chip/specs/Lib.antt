@@ -5,3 +5,4 @@ pub mod Cycle
 pub mod Needs
 pub mod Trace
 pub mod Recent
+pub mod Suspended

@@ -4,7 +4,7 @@ use mathlib.Core.Path.{_≡_}
 use mathlib.Core.Bool.{true}
 use Rattle.parts.specs.declared.table.Row.{Row}
 use Rattle.chip.specs.declared.device.Core.{Core}
-use Rattle.chip.specs.Device.{busy}
+use Rattle.chip.specs.Device.{busy, held}
 use Rattle.chip.specs.Operation.{cellsOf}
 
 -- the values and the device ID of the part are words, and its values have a bit 7
@@ -13,6 +13,7 @@ pub record InWords (r : Row) : Type 0 where
   pub bit-7 : 8 ≤ r .width
   pub identity : r .device < 65536
 
--- the cells of an operation that runs are among the n lent ones
+-- the cells of what runs, and of what is suspended, are among the n lent ones
 pub record RunsInside (r : Row) (k : Core) (n : ℕ) : Type 0 where
   pub inside : busy k ≡ true → cellsOf r (k .running) .first + cellsOf r (k .running) .count ≤ n
+  pub held-inside : held k ≡ true → cellsOf r (k .suspended) .first + cellsOf r (k .suspended) .count ≤ n

@@ -2,11 +2,9 @@
 use Prim.Native.Nat.{ℕ, _-_, _/_, _%_, _^_}
 use mathlib.Core.Path.{_≡_}
 use mathlib.Core.Bool.{Bool, true, false}
-use mathlib.Core.List.{List, [], _∷_}
 use lib.Dec.{eqb, ltb}
 use Rattle.parts.specs.Pick.{pick}
 use Rattle.chip.specs.declared.device.Core.{Core}
-use Rattle.chip.specs.declared.device.Operation.{Operation}
 use Rattle.chip.specs.declared.device.Device.{Device}
 use Rattle.chip.specs.Device.{withRecent, busy, withCore}
 
@@ -31,8 +29,3 @@ recentOnce k e = pick (busy k) (eqb e (k .running .left)) (pick (ltb 0 e) false 
 -- the device some time later, where nothing runs
 abbrev pub later : Device → Device
 later d = withCore d (withRecent (d .core) false)
-
--- nothing is started
-abbrev pub none : List Operation → Bool
-none [] = true
-none (o ∷ os) = false

@@ -8,16 +8,17 @@ use Rattle.parts.specs.Pick.{pick}
 use Rattle.parts.specs.Table.{rowOf}
 use Rattle.parts.specs.declared.table.Row.{Row}
 use Rattle.chip.specs.declared.device.Operation.{Operation}
+use Rattle.chip.specs.declared.device.Core.{Core}
 use Rattle.chip.specs.declared.device.Device.{Device}
 use Rattle.commands.specs.declared.effect.Effect.{Effect}
 use Rattle.commands.specs.declared.effect.Effect.the-variants.{Goes, Starts, Enters}
 use Rattle.chip.specs.declared.cycle.Action.{Action}
 use Rattle.chip.specs.declared.cycle.Action.the-variants.{Read, Write, Idle, Cut}
 use Rattle.chip.specs.declared.cycle.Cycle.{Cycle}
-use Rattle.chip.specs.Device.{busy}
+use Rattle.chip.specs.Device.{pending, busy}
 use Rattle.chip.specs.Operation.{completeOn}
 use Rattle.commands.specs.Commands.{effectOf}
-use Rattle.chip.specs.Sequence.{ignored, newOperation}
+use Rattle.chip.specs.Sequence.{passedOver, newOperation, resuming}
 use Rattle.chip.specs.Cycle.{Chip, chip, Outcome, cycleRefusal, afterTime, cycleOf}
 
 -- the chip that an outcome leaves
@@ -32,16 +33,19 @@ abbrev pub play : ℕ → Chip → List Cycle → Chip
 play part h [] = h
 play part h (c ∷ cs) = play part (after part h c) cs
 
--- the operation that an effect starts: a command's that is not ignored
-abbrev pub effectStarts : Row → Bool → ℕ → ℕ → Effect → List Operation
-effectStarts r wp a x (Goes s) = []
-effectStarts r wp a x (Starts k) = pick (ignored r wp k a) [] (newOperation r k a x ∷ [])
-effectStarts r wp a x (Enters m) = []
+-- the operation that an effect starts: a command's that is not passed over
+abbrev pub effectStarts : Row → Core → Bool → ℕ → ℕ → Effect → List Operation
+effectStarts r k wp a x (Goes s) = []
+effectStarts r k wp a x (Starts c) = pick (passedOver r k wp c a) [] (newOperation r c a x ∷ [])
+effectStarts r k wp a x (Enters m) = []
 
--- the operation that an action starts: that of a write's effect, and none while busy
+-- the operation that an action starts: that of a write's effect; none while busy, and none by a resume
 abbrev pub actionStarts : Row → Device → Bool → Action → List Operation
 actionStarts r d wp (Read a) = []
-actionStarts r d wp (Write a x) = pick (busy (d .core)) [] (effectStarts r wp a x (effectOf r (d .stage) a x))
+actionStarts r d wp (Write a x) =
+    pick (busy (d .core)) []
+    (pick (resuming (d .core) (d .stage) x) []
+    (effectStarts r (d .core) wp a x (effectOf r (d .stage) a x)))
 actionStarts r d wp Idle = []
 actionStarts r d wp (Cut s) = []
 
@@ -57,10 +61,22 @@ abbrev pub startedIn : ℕ → Chip → List Cycle → List Operation
 startedIn part h [] = []
 startedIn part h (c ∷ cs) = startedBy part h c ++ startedIn part (after part h c) cs
 
+-- each of the operations
+abbrev pub All : (Operation → Type 0) → List Operation → Type 0
+All P [] = Unit {0}
+All P (o ∷ os) = P o × All P os
+
 -- operations performed in order
 abbrev pub completeAll : Row → List Operation → List ℕ → List ℕ
 completeAll r [] cells = cells
 completeAll r (o ∷ os) cells = completeAll r os (completeOn r o cells)
+
+-- the cells as they will be: what runs done, then what is suspended
+abbrev pub finish : Row → Operation → List ℕ → List ℕ
+finish r o cells = pick (pending o) (completeOn r o cells) cells
+
+unfoldable pub coming : Row → Chip → List ℕ
+coming r h = finish r (h .device .core .suspended) (finish r (h .device .core .running) (h .cells))
 
 -- no power is cut
 abbrev pub uncutAction : Action → Bool

@@ -3,6 +3,8 @@ use crate::Core;
 use crate::Device;
 use crate::Operation;
 use crate::device::fresh;
+use crate::device::reads_cells;
+use crate::operation::cells_of;
 use crate::operation::complete;
 use crate::operation::cut_short;
 use crate::sequence::written;
@@ -10,6 +12,7 @@ use commands::Mode;
 use parts::Found;
 use parts::Row;
 use parts::names::BAD_STATE;
+use parts::names::BIT_2;
 use parts::names::BIT_6;
 use parts::names::BIT_7;
 use parts::names::NO_ADDRESS;
@@ -17,10 +20,12 @@ use parts::names::PROGRAM;
 use parts::names::WIDE_DATA;
 use parts::names::WRONG_CELLS;
 ghost use mathlib.Core.Path.{_≡_};
-ghost use Prim.Native.Nat.{_<_, _≤_};
+ghost use Prim.Native.Nat.{_+_, _<_, _≤_};
 ghost use lib.ListN.{length};
 ghost use mathlib.Core.Bool.{true};
-ghost use Rattle.chip.specs.Cycle.{actedOf, actionRefusal, bit6, bit7, chip, cutOf, cycleOf, cycleRefusalOn, identity, inverted, outputsOf, readOf, settledOf, shownOf, status};
+ghost use Rattle.chip.specs.Cycle.{actedOf, actionRefusal, bit2, bit6, bit7, chip, cutOf, cutShort, cycleOf, cycleRefusalOn, identity, inverted, modeShows, outputsOf, readOf, settledOf, showing, shownOf, status, tells, turnedBy, veils};
+ghost use Rattle.chip.specs.Device.{pending, toggled, withRunning};
+ghost use Rattle.chip.specs.Operation.{cellsOf};
 ghost use Rattle.chip.specs.Needs.{InWords, RunsInside};
 
 // What a cycle does: read an address, write an address with data, nothing, or a power cut with a scar.
@@ -142,11 +147,54 @@ fn bit_6(o: Operation) -> u16
     0
 }
 
-// What a busy read shows.
-fn busy_status(o: Operation) -> u16
-    ensures { λ r. ⌜ r ≡ status o ⌝ }
+// Whether bit 2 tells of an erase at an address: in its range, on the parts that can suspend one.
+fn tells_of(row: Row, o: Operation, a: u32) -> bool
+    ensures { λ r. ⌜ r ≡ tells row o a ⌝ }
 {
-    bit_7(o) * BIT_7 + bit_6(o) * BIT_6
+    if !row.suspends {
+        return false;
+    }
+    if o.kind == PROGRAM {
+        return false;
+    }
+    let range = cells_of(row, o);
+    range.holds(a)
+}
+
+// Bit 2 where it tells of an erase; elsewhere 0.
+fn bit_2(core: Core, tells: bool) -> u16
+    ensures { λ r. ⌜ r ≡ bit2 core tells ⌝ }
+{
+    if !tells {
+        return 0;
+    }
+    if core.turned {
+        return 0;
+    }
+    1
+}
+
+// A read that shows bit 2 turns it over.
+fn turned_by(core: Core, tells: bool) -> Core
+    ensures { λ r. ⌜ r ≡ turnedBy core tells ⌝ }
+{
+    if tells {
+        return core.with_turned(!core.turned);
+    }
+    core
+}
+
+// A busy read.
+fn look_busy(row: Row, core: Core, a: u32) -> Shown
+    ensures { λ r. ⌜ r ≡ showing (status row core a) (turnedBy (withRunning core (toggled (core .running))) (tells row (core .running) a)) ⌝ }
+{
+    let o = core.running;
+    let tells = tells_of(row, o, a);
+    let read = core.with_running(o.toggled());
+    Shown {
+        value: bit_7(o) * BIT_7 + bit_6(o) * BIT_6 + bit_2(core, tells) * BIT_2,
+        core: turned_by(read, tells),
+    }
 }
 
 // What identification mode shows at an address.
@@ -171,11 +219,11 @@ fn invert(width: u32, v: u16) -> u16
     v ^ (parts::blank(width) - BIT_7)
 }
 
-// What a read at rest shows once a completion is older than 0 µs.
-fn rest_value(cells: &[u16], row: Row, mode: Mode, a: u32) -> u16
+// What a read at rest shows with nothing suspended, once a completion is older than 0 µs.
+fn mode_shows(cells: &[u16], row: Row, mode: Mode, a: u32) -> u16
     requires { ⌜ InWords row ⌝ }
     requires { ⌜ a < length (now cells) ⌝ }
-    ensures { λ r. ⌜ r ≡ shownOf row (now (cells .entry)) mode a ⌝ }
+    ensures { λ r. ⌜ r ≡ modeShows row (now (cells .entry)) mode a ⌝ }
 {
     match mode {
         Mode::ReadMode => parts::value(row.width, cells[a as usize]),
@@ -183,16 +231,42 @@ fn rest_value(cells: &[u16], row: Row, mode: Mode, a: u32) -> u16
     }
 }
 
-// What the outputs show at rest: inverted while a completion is 0 µs old.
-fn outputs(cells: &[u16], row: Row, core: Core, a: u32) -> u16
+// Whether a suspended erase veils an address: one of its range, in read mode.
+fn is_veiled(row: Row, core: Core, a: u32) -> bool
+    ensures { λ r. ⌜ r ≡ veils row core a ⌝ }
+{
+    if !core.is_held() {
+        return false;
+    }
+    let mode = core.mode;
+    if reads_cells(mode) {
+        let s = core.suspended;
+        return tells_of(row, s, a);
+    }
+    false
+}
+
+// What a read at rest shows, an address being veiled or not, once a completion is older than 0 µs.
+fn rest_value(cells: &[u16], row: Row, core: Core, a: u32, veiled: bool) -> u16
     requires { ⌜ InWords row ⌝ }
     requires { ⌜ a < length (now cells) ⌝ }
-    ensures { λ r. ⌜ r ≡ outputsOf (row .width) (core .recent) (shownOf row (now (cells .entry)) (core .mode) a) ⌝ }
+    requires { ⌜ veiled ≡ veils row core a ⌝ }
+    ensures { λ r. ⌜ r ≡ shownOf row (now (cells .entry)) core a ⌝ }
 {
+    if veiled {
+        return BIT_7 + BIT_6 + bit_2(core, true) * BIT_2;
+    }
     let mode = core.mode;
-    let v = rest_value(cells, row, mode, a);
-    if core.recent {
-        return invert(row.width, v);
+    mode_shows(cells, row, mode, a)
+}
+
+// What the outputs show of a value at rest: inverted while a completion is 0 µs old.
+fn outputs(width: u32, recent: bool, v: u16) -> u16
+    requires { ⌜ (8 ≤ width) × (width ≤ 16) ⌝ }
+    ensures { λ r. ⌜ r ≡ outputsOf width recent v ⌝ }
+{
+    if recent {
+        return invert(width, v);
     }
     v
 }
@@ -204,27 +278,33 @@ fn look(cells: &[u16], row: Row, core: Core, a: u32) -> Shown
     ensures { λ r. ⌜ r ≡ readOf row (now (cells .entry)) core a ⌝ }
 {
     if core.is_busy() {
-        let o = core.running;
-        return Shown {
-            value: busy_status(o),
-            core: core.with_running(o.toggled()),
-        };
+        return look_busy(row, core, a);
     }
+    let veiled = is_veiled(row, core, a);
+    let v = rest_value(cells, row, core, a, veiled);
     Shown {
-        value: outputs(cells, row, core, a),
-        core,
+        value: outputs(row.width, core.recent, v),
+        core: turned_by(core, veiled),
     }
 }
 
-// A power cut, after its time has passed.
+// What a power cut leaves of an operation, where it is pending.
+fn cut_one(cells: &mut [u16], row: Row, o: Operation, scar: u16)
+    requires { ⌜ (pending o ≡ true → cellsOf row o .first + cellsOf row o .count ≤ length (now cells)) ⌝ }
+    ensures { λ _. ⌜ now (cells .exit) ≡ cutShort row o scar (now (cells .entry)) ⌝ }
+{
+    if o.is_pending() {
+        cut_short(cells, row, o, scar);
+    }
+}
+
+// A power cut, after its time has passed: what runs and what is suspended are cut short.
 fn cut(cells: &mut [u16], row: Row, core: Core, scar: u16)
     requires { ⌜ RunsInside row core (length (now cells)) ⌝ }
     ensures { λ _. ⌜ now (cells .exit) ≡ cutOf row (now (cells .entry)) core scar ⌝ }
 {
-    let o = core.running;
-    if 0 < o.left {
-        cut_short(cells, row, o, scar);
-    }
+    cut_one(&mut *cells, row, core.running, scar);
+    cut_one(cells, row, core.suspended, scar);
 }
 
 // A read of a device.

@@ -1,11 +1,17 @@
-// The device state: its core, that is its mode, the operation that runs and whether one has just completed, and the stage of
-// its write sequence.
+// The device state: its core, that is its mode, the operation that runs, the erase that is suspended and whether one has just
+// completed, and the stage of its write sequence.
+use crate::operation::cells_of;
 use commands::Mode;
 use parts::Row;
+use parts::names::BLOCK;
 use parts::names::NONE_BEGUN;
+use parts::names::PROGRAM;
 use parts::names::SECOND_55H;
+use parts::names::SECTOR;
 ghost use mathlib.Core.Path.{_≡_};
-ghost use Rattle.chip.specs.Device.{agedBy, atRest, busy, busyWith, coreInRange, deviceInRange, freshDevice, inMode, noOperation, reads, toggled, validOperation, withCore, withLeft, withRecent, withRunning};
+ghost use mathlib.Core.Bool.{true};
+ghost use Rattle.parts.specs.Pick.{pick};
+ghost use Rattle.chip.specs.Device.{agedBy, atRest, barred, busy, busyWith, coreInRange, deviceInRange, freshDevice, held, heldInRange, inMode, noOperation, pending, reads, restarted, resume, runsInRange, suspend, suspendable, toggled, validOperation, withCore, withLeft, withRecent, withRunning, withTurned};
 
 // An operation: its command's number, address and data, the µs left, and what bit 6 shows at the
 // next busy read. It is pending exactly while time is left.
@@ -18,11 +24,14 @@ pub struct Operation {
 }
 
 // All of a device but its write sequence: time, reads and cuts use nothing else. A recent completion is one 0 µs old; it
-// stands beside the mode, since behind what runs it made a job slower (docs/DECISIONS.md, W5).
+// stands beside the mode, since behind what runs it made a job slower (docs/DECISIONS.md, W5). Bit 2 has turned where the
+// next read that shows it shows 0.
 pub struct Core {
     pub mode: Mode,
     pub recent: bool,
+    pub turned: bool,
     pub running: Operation,
+    pub suspended: Operation,
 }
 
 // The stage is one of the seven of a write sequence (parts::names).
@@ -71,6 +80,50 @@ impl Operation {
         }
     }
 
+    // As it starts, is suspended or resumed: bit 6 begins at 1.
+    fn restarted(self) -> Operation
+        ensures { λ r. ⌜ r ≡ restarted self ⌝ }
+    {
+        Operation {
+            kind: self.kind,
+            address: self.address,
+            data: self.data,
+            left: self.left,
+            toggle: true,
+        }
+    }
+
+    // Whether time is left.
+    pub(crate) fn is_pending(self) -> bool
+        ensures { λ r. ⌜ r ≡ pending self ⌝ }
+    {
+        0 < self.left
+    }
+
+    // Whether, suspended, it bars a command at an address.
+    pub(crate) fn bars(self, row: Row, command: u32, address: u32) -> bool
+        ensures { λ r. ⌜ r ≡ barred row self command address ⌝ }
+    {
+        if !self.is_pending() {
+            return false;
+        }
+        if command == PROGRAM {
+            let range = cells_of(row, self);
+            return range.holds(address);
+        }
+        true
+    }
+
+    // Whether, suspended, it is one that the part can have so.
+    fn is_valid_suspended(self, row: Row) -> bool
+        ensures { λ r. ⌜ r ≡ heldInRange row self ⌝ }
+    {
+        if is_suspendable(row, self.kind) {
+            return self.is_valid(row);
+        }
+        false
+    }
+
     // Whether, with time left, it is one that the part can be at.
     fn is_valid(self, row: Row) -> bool
         ensures { λ r. ⌜ r ≡ validOperation row self ⌝ }
@@ -89,8 +142,21 @@ impl Operation {
     }
 }
 
+// Whether a command is one that can be suspended: a sector or block erase, on a part that says so.
+pub(crate) fn is_suspendable(row: Row, command: u32) -> bool
+    ensures { λ r. ⌜ r ≡ suspendable row command ⌝ }
+{
+    if !row.suspends {
+        return false;
+    }
+    if command == SECTOR {
+        return true;
+    }
+    command == BLOCK
+}
+
 // Whether a mode is read mode.
-fn reads_cells(mode: Mode) -> bool
+pub(crate) fn reads_cells(mode: Mode) -> bool
     ensures { λ r. ⌜ r ≡ reads mode ⌝ }
 {
     match mode {
@@ -105,22 +171,13 @@ impl Core {
         ensures { λ r. ⌜ r ≡ inMode self mode ⌝ }
     {
         let running = self.running;
+        let suspended = self.suspended;
         Core {
             mode,
-            running,
             recent: self.recent,
-        }
-    }
-
-    // With what runs.
-    pub(crate) fn with_running(self, running: Operation) -> Core
-        ensures { λ r. ⌜ r ≡ withRunning self running ⌝ }
-    {
-        let mode = self.mode;
-        Core {
-            mode,
+            turned: self.turned,
             running,
-            recent: self.recent,
+            suspended,
         }
     }
 
@@ -130,28 +187,102 @@ impl Core {
     {
         let mode = self.mode;
         let running = self.running;
+        let suspended = self.suspended;
         Core {
             mode,
-            running,
             recent,
+            turned: self.turned,
+            running,
+            suspended,
         }
     }
 
-    // An operation starts: read mode, it runs, and no completion is 0 µs old.
+    // With bit 2 to show 0 at the next read that shows it, or 1.
+    pub(crate) fn with_turned(self, turned: bool) -> Core
+        ensures { λ r. ⌜ r ≡ withTurned self turned ⌝ }
+    {
+        let mode = self.mode;
+        let running = self.running;
+        let suspended = self.suspended;
+        Core {
+            mode,
+            recent: self.recent,
+            turned,
+            running,
+            suspended,
+        }
+    }
+
+    // With what runs.
+    pub(crate) fn with_running(self, running: Operation) -> Core
+        ensures { λ r. ⌜ r ≡ withRunning self running ⌝ }
+    {
+        let mode = self.mode;
+        let suspended = self.suspended;
+        Core {
+            mode,
+            recent: self.recent,
+            turned: self.turned,
+            running,
+            suspended,
+        }
+    }
+
+    // An operation starts: read mode, it runs, no completion is 0 µs old, and bit 2 begins at 1.
     pub(crate) fn busy_with(self, running: Operation) -> Core
         ensures { λ r. ⌜ r ≡ busyWith self running ⌝ }
     {
-        let read = self.in_mode(Mode::ReadMode);
-        let busy = read.with_running(running);
-        busy.with_recent(false)
+        let suspended = self.suspended;
+        Core {
+            mode: Mode::ReadMode,
+            recent: false,
+            turned: false,
+            running,
+            suspended,
+        }
     }
 
     // An operation has completed: nothing runs, and the completion is 0 µs old or is not.
     pub(crate) fn at_rest(self, recent: bool) -> Core
         ensures { λ r. ⌜ r ≡ atRest self recent ⌝ }
     {
-        let rested = self.with_running(no_operation());
-        rested.with_recent(recent)
+        let mode = self.mode;
+        let suspended = self.suspended;
+        Core {
+            mode,
+            recent,
+            turned: false,
+            running: no_operation(),
+            suspended,
+        }
+    }
+
+    // What runs is suspended: read mode, nothing runs; bits 6 and 2 begin at 1.
+    pub(crate) fn suspend(self) -> Core
+        ensures { λ r. ⌜ r ≡ suspend self ⌝ }
+    {
+        let o = self.running;
+        Core {
+            mode: Mode::ReadMode,
+            recent: self.recent,
+            turned: false,
+            running: no_operation(),
+            suspended: o.restarted(),
+        }
+    }
+
+    // What is suspended is resumed: read mode, it runs on with the time that was left; bits 6 and 2 begin at 1.
+    pub(crate) fn resume(self) -> Core
+        ensures { λ r. ⌜ r ≡ resume self ⌝ }
+    {
+        let o = self.suspended;
+        Core {
+            mode: Mode::ReadMode,
+            recent: false,
+            turned: false,
+            running: o.restarted(),
+            suspended: no_operation(),
+        }
     }
 
     // Time at rest: any positive time ends that a completion is 0 µs old.
@@ -169,25 +300,58 @@ impl Core {
         ensures { λ r. ⌜ r ≡ busy self ⌝ }
     {
         let o = self.running;
-        0 < o.left
+        o.is_pending()
     }
 
-    // Whether the core is in range for the part.
-    fn in_range(self, row: Row) -> bool
-        ensures { λ r. ⌜ r ≡ coreInRange row self ⌝ }
+    // Whether an erase is suspended.
+    pub(crate) fn is_held(self) -> bool
+        ensures { λ r. ⌜ r ≡ held self ⌝ }
     {
-        if !self.is_busy() {
-            return true;
-        }
+        let s = self.suspended;
+        s.is_pending()
+    }
+
+    // Whether what runs is in range for the part.
+    fn runs_in_range(self, row: Row) -> bool
+        ensures { λ r. ⌜ r ≡ runsInRange row self ⌝ }
+    {
         if self.recent {
             return false;
         }
         let mode = self.mode;
-        if reads_cells(mode) {
-            let o = self.running;
-            return o.is_valid(row);
+        if !reads_cells(mode) {
+            return false;
         }
-        false
+        let o = self.running;
+        let s = self.suspended;
+        if s.bars(row, o.kind, o.address) {
+            return false;
+        }
+        o.is_valid(row)
+    }
+
+    // Whether what is suspended, where something is, is in range for the part.
+    fn holds_in_range(self, row: Row) -> bool
+        ensures { λ r. ⌜ r ≡ pick (held self) (heldInRange row (self .suspended)) true ⌝ }
+    {
+        if self.is_held() {
+            let s = self.suspended;
+            return s.is_valid_suspended(row);
+        }
+        true
+    }
+
+    // Whether the core is in range for the part: what runs and what is suspended, each where there is one.
+    fn in_range(self, row: Row) -> bool
+        ensures { λ r. ⌜ r ≡ coreInRange row self ⌝ }
+    {
+        if self.is_busy() {
+            if self.runs_in_range(row) {
+                return self.holds_in_range(row);
+            }
+            return false;
+        }
+        self.holds_in_range(row)
     }
 }
 
@@ -227,8 +391,10 @@ pub fn fresh() -> Device
 {
     let core = Core {
         mode: Mode::ReadMode,
-        running: no_operation(),
         recent: false,
+        turned: false,
+        running: no_operation(),
+        suspended: no_operation(),
     };
     Device {
         core,

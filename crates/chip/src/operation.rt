@@ -15,7 +15,7 @@ ghost use Rattle.chip.specs.Operation.{cellsOf, completeOn, cutOn};
 ghost use Rattle.chip.specs.Needs.{InWords};
 
 // The cells of an operation.
-fn cells_of(row: Row, o: Operation) -> Span
+pub(crate) fn cells_of(row: Row, o: Operation) -> Span
     ensures { λ r. ⌜ r ≡ cellsOf row o ⌝ }
 {
     let kind = o.kind;

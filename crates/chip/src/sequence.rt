@@ -1,14 +1,17 @@
-// A write to a device: what its effect leaves.
+// A write to a device: it suspends or resumes an erase, or has an effect.
 use crate::Core;
 use crate::Device;
 use crate::Operation;
+use crate::device::is_suspendable;
 use commands::Effect;
 use commands::Mode;
 use parts::Row;
 use parts::names::CHIP;
 use parts::names::NONE_BEGUN;
+use parts::names::RESUME_CODE;
+use parts::names::SUSPEND_CODE;
 ghost use mathlib.Core.Path.{_≡_};
-ghost use Rattle.chip.specs.Sequence.{afterEffect, coreAfter, ignored, writtenOf};
+ghost use Rattle.chip.specs.Sequence.{afterEffect, coreAfter, ignored, passedOver, resuming, suspending, writtenOf};
 
 // Whether WP# protects from a command at an address.
 fn is_ignored(row: Row, wp: bool, command: u32, a: u32) -> bool
@@ -24,11 +27,22 @@ fn is_ignored(row: Row, wp: bool, command: u32, a: u32) -> bool
     protected.holds(a)
 }
 
-// The operation starts, unless it is protected.
+// Whether a command is passed over: a suspended erase bars it, or WP# protects from it.
+fn is_passed_over(row: Row, core: Core, wp: bool, command: u32, a: u32) -> bool
+    ensures { λ r. ⌜ r ≡ passedOver row core wp command a ⌝ }
+{
+    let s = core.suspended;
+    if s.bars(row, command, a) {
+        return true;
+    }
+    is_ignored(row, wp, command, a)
+}
+
+// The operation starts, unless it is passed over.
 fn start(row: Row, core: Core, wp: bool, command: u32, a: u32, x: u16) -> Core
     ensures { λ r. ⌜ r ≡ coreAfter row core wp a x (Effect.Starts command) ⌝ }
 {
-    if is_ignored(row, wp, command, a) {
+    if is_passed_over(row, core, wp, command, a) {
         return core.in_mode(Mode::ReadMode);
     }
     let operation = Operation {
@@ -58,14 +72,51 @@ fn after_effect(row: Row, core: Core, wp: bool, a: u32, x: u16, effect: Effect) 
     }
 }
 
-// A write; while busy it does nothing.
+// Whether a write suspends what runs.
+fn suspends(row: Row, core: Core, x: u16) -> bool
+    ensures { λ r. ⌜ r ≡ suspending row core x ⌝ }
+{
+    let o = core.running;
+    if is_suspendable(row, o.kind) {
+        return x % 256 == SUSPEND_CODE;
+    }
+    false
+}
+
+// Whether a write at a stage, with nothing running, resumes what is suspended.
+fn resumes(core: Core, stage: u32, x: u16) -> bool
+    ensures { λ r. ⌜ r ≡ resuming core stage x ⌝ }
+{
+    if !core.is_held() {
+        return false;
+    }
+    if stage == NONE_BEGUN {
+        return x % 256 == RESUME_CODE;
+    }
+    false
+}
+
+// A write: while busy it suspends or does nothing; else it resumes, or has its effect.
 pub(crate) fn written(row: Row, d: Device, wp: bool, a: u32, x: u16) -> Device
     ensures { λ r. ⌜ r ≡ writtenOf row d wp a x ⌝ }
 {
     let core = d.core;
+    let stage = d.stage;
     if core.is_busy() {
+        if suspends(row, core, x) {
+            return Device {
+                core: core.suspend(),
+                stage: NONE_BEGUN,
+            };
+        }
         return d;
     }
-    let effect = commands::effect_of(row, d.stage, a, x);
+    if resumes(core, stage, x) {
+        return Device {
+            core: core.resume(),
+            stage: NONE_BEGUN,
+        };
+    }
+    let effect = commands::effect_of(row, stage, a, x);
     after_effect(row, core, wp, a, x, effect)
 }

@@ -31,7 +31,7 @@ use Rattle.driver.specs.Machine.{valueWanted, noDriver, startOf, startWriting, 
 use Rattle.driver.proofs.Begins.{start-range}
 use Rattle.driver.proofs.Theorems.{refused-steps}
 use Rattle.bus.specs.Cycle.{deviceOf, noState, Cycled, cycledNumbers}
-use Rattle.bus.proofs.Back.{bad-mode, bad-toggle, bad-recent, no-device, refused-numbers, taken-numbers}
+use Rattle.bus.proofs.Back.{bad-mode, bad-recent, bad-turned, bad-toggle, bad-suspended-toggle, no-device, refused-numbers, taken-numbers}
 use Rattle.job.specs.declared.bill.Bill.{Bill}
 use Rattle.job.specs.Bill.{Loaded, Reported, refusedBill, loadOf, reportOf}
 use Rattle.jobfile.specs.declared.trailer.JobFile.{JobFile}
@@ -154,12 +154,20 @@ cycles-refuse g = by n refl
 
 no-devices : (g : OnStation) → noDevice (g .device) ≡ true
     → refusedCycle (meant g) ≡ (partRefusal (g .part) orElse 2 unless eqb (length (g .cells)) (rowOf (g .part) .cells) else 5)
-no-devices g e = no-device (g .part) (length (g .cells)) (g .device) (g .cycle .action) (by (ltb 1 (g .device .mode)) refl (ltb 1 (g .device .toggle)) refl e)
+no-devices g e = no-device (g .part) (length (g .cells)) (g .device) (g .cycle .action) (none-meant (g .device) e)
   where
-    by : (t : Bool) → ltb 1 (g .device .mode) ≡ t → (s : Bool) → ltb 1 (g .device .toggle) ≡ s → pick t true (pick s true (ltb 1 (g .device .recent))) ≡ true → deviceOf (g .device) ≡ noState
-    by true t s u e = bad-mode (g .device) (ltb-true 1 (g .device .mode) t)
-    by false t true u e = bad-toggle (g .device) (ltb-false 1 (g .device .mode) t) (ltb-true 1 (g .device .toggle) u)
-    by false t false u e = bad-recent (g .device) (ltb-false 1 (g .device .mode) t) (ltb-false 1 (g .device .toggle) u) (ltb-true 1 (g .device .recent) e)
+    -- one of two tests
+    either : {P : Type 0} (a b : Bool) → (a ≡ true → P) → (b ≡ true → P) → pick a true b ≡ true → P
+    either true b f g e = f refl
+    either false b f g e = g e
+
+    none-meant : (n : DeviceNumbers) → noDevice n ≡ true → deviceOf n ≡ noState
+    none-meant n =
+        either (ltb 1 (n .mode)) _ (λ t. bad-mode n (ltb-true 1 (n .mode) t))
+        (either (ltb 1 (n .recent)) _ (λ t. bad-recent n (ltb-true 1 (n .recent) t))
+        (either (ltb 1 (n .turned)) _ (λ t. bad-turned n (ltb-true 1 (n .turned) t))
+        (either (ltb 1 (n .running .toggle)) _ (λ t. bad-toggle n (ltb-true 1 (n .running .toggle) t))
+        (λ t. bad-suspended-toggle n (ltb-true 1 (n .suspended .toggle) t)))))
 
 -- ---- the k-th write, and figures: as the functions and the C controller's have them
 kth-refuses : (part command address x k : ℕ)

@@ -14,17 +14,20 @@ use Rattle.parts.specs.Width.{valueOf}
 use Rattle.parts.specs.Table.{rowOf}
 use Rattle.parts.specs.declared.table.Row.{Row}
 use Rattle.parts.proofs.Every.{apart}
-use Rattle.parts.proofs.Sound.{width-least}
+use Rattle.parts.proofs.Sound.{width-least, suspends-on}
 use Rattle.chip.specs.declared.device.Device.{Device}
 use Rattle.chip.specs.declared.device.Operation.{Operation}
 use Rattle.chip.specs.declared.cycle.Action.the-variants.{Read}
 use Rattle.chip.specs.declared.cycle.Cycle.{Cycle}
 use Rattle.chip.specs.declared.cycle.Reply.{Reply}
-use Rattle.chip.specs.Cycle.{cycle, Chip, chip, Outcome, cycleRefusal, acceptedOf, cycleOf}
-use Rattle.chip.specs.Trace.{after, play, startedBy, startedIn, uncutAction}
-use Rattle.chip.specs.Recent.{DifferButSeven, recentOnce, none}
+use Rattle.chip.specs.Device.{busy}
+use Rattle.chip.specs.Cycle.{cycle, Chip, chip, Outcome, veils, cycleRefusal, acceptedOf, cycleOf}
+use Rattle.chip.specs.Trace.{after, play, startedIn, uncutAction}
+use Rattle.chip.specs.Recent.{DifferButSeven, recentOnce}
 use Rattle.chip.proofs.Accepted.{accepted}
 use Rattle.chip.proofs.Recent.{recent-exactly, word-later, word-after-completion}
+use Rattle.chip.proofs.Suspended as Suspended
+use Rattle.chip.proofs.Suspended.{suspended-is, stands, resumed-is, never-held}
 use Rattle.chip.proofs.Started.{started-append, reads-start, one-read-starts}
 use Rattle.driver.specs.declared.machine.Driver.{Driver}
 use Rattle.driver.specs.declared.machine.Started.{Started}
@@ -71,12 +74,11 @@ differ-as w x y u v p q d = rw (p, q) d
 
 exactly : (c : BusCall) → let g = onBus c in refusedCycle g ≡ 0
     → busLeft c .reply .device .core .recent
-    ≡ pick (uncutAction (g .cycle .action)) (pick (none (startedBy (g .part) (chip (g .cells) (g .device)) (g .cycle))) (recentOnce (g .device .core) (g .cycle .elapsed)) false) false
+    ≡ pick (uncutAction (g .cycle .action)) (pick (busy (busLeft c .reply .device .core)) false (recentOnce (g .device .core) (g .cycle .elapsed))) false
 unfolding after
 exactly c z =
     let g = onBus c in
-    ap (λ (o : Outcome). o .reply .device .core .recent) (bus-left c g refl)
-    ∙ recent-exactly (g .part) (chip (g .cells) (g .device)) (g .cycle) (accepted (g .part) (length (g .cells)) (g .device) (g .cycle .action) z)
+    rw (bus-left c g refl) (recent-exactly (g .part) (chip (g .cells) (g .device)) (g .cycle) (accepted (g .part) (length (g .cells)) (g .device) (g .cycle .action) z))
 
 comes-later : (c e : BusCall) → let g = onBus c in refusedCycle g ≡ 0
     → (a : ℕ) (u v : Bool) (t : ℕ) → g .device .core .recent ≡ true → g .cycle ≡ cycle 0 u (Read a)
@@ -89,16 +91,16 @@ comes-later c e z a u v t n gc hc some =
     (word-later (g .part) (g .cells) (g .device) a (still-taken g (cycle 0 u (Read a)) gc z) n u v t some)
 
 comes-after : (c e : BusCall) → let g = onBus c in refusedCycle g ≡ 0
-    → (a s : ℕ) (u v : Bool) (t : ℕ) → 0 < s → g .device .core .running .left ≡ s → g .cycle ≡ cycle s u (Read a)
+    → (a s : ℕ) (u v : Bool) (t : ℕ) → veils (rowOf (g .part)) (g .device .core) a ≡ false → 0 < s → g .device .core .running .left ≡ s → g .cycle ≡ cycle s u (Read a)
     → onBus e ≡ record { part = g .part; cells = busLeft c .cells; device = busLeft c .reply .device; cycle = cycle t v (Read a) } → 0 < t
     → DifferButSeven (rowOf (g .part) .width) (c .back .value) (e .back .value)
-comes-after c e z a s u v t some l gc hc later =
+comes-after c e z a s u v t clear some l gc hc later =
     let g = onBus c in
     let first = bus-left c _ (with-cycle g (cycle s u (Read a)) gc) in
     differ-as (rowOf (g .part) .width) _ _ _ _ (ap (λ (o : Outcome). o .reply .value) first)
     (ap (λ (o : Outcome). o .reply .value) (bus-left e _ hc)
     ∙ ap (λ (o : Outcome). cycleOf (g .part) (o .cells) (o .reply .device) (cycle t v (Read a)) .reply .value) first)
-    (word-after-completion (g .part) (g .cells) (g .device) a s u (still-taken g (cycle s u (Read a)) gc z) some l t v later)
+    (word-after-completion (g .part) (g .cells) (g .device) a s u (still-taken g (cycle s u (Read a)) gc z) clear some l t v later)
 
 -- ---- a command's writes together
 -- the first count of six places are the writes
@@ -313,6 +315,11 @@ demand-2 =
       recent-exactly = exactly;
       word-comes-later = comes-later;
       word-comes-after-completion = comes-after;
+      erase-suspended = suspended-is;
+      suspended-stands = stands;
+      erase-resumed = resumed-is;
+      parts-that-suspend = suspends-on;
+      writes-plainly = λ part plain d wp a x i. (never-held (rowOf part) plain d i, Suspended.writes-plainly (rowOf part) plain d wp a x i);
       writes-run = λ c accepted cells d wp i. let g = toWrite c in
           rw (c .promise, places-are (g .part) (g .command) (g .address) (g .word) accepted)
           (Theorems.writes-start (g .part) (g .command) (g .address) (g .word) wp cells d accepted (i .whole) (i .rests) (i .heeded) .0);

@@ -108,9 +108,14 @@ onStation (byCut c) =
     let a = c .given in let t = a .1 .1 .1 in
     record { part = a .0; cells = a .1 .0 .now; device = a .1 .1 .0; cycle = cycle (t .0) (high (t .1 .0)) (Cut (t .1 .1 .0)) }
 
--- numbers that are no device's: a mode, a toggle or a recent completion above 1
+-- numbers that are no device's: a mode, a recent completion, a turned bit 2 or a toggle above 1
 abbrev pub noDevice : DeviceNumbers → Bool
-noDevice n = true when ltb 1 (n .mode) else true when ltb 1 (n .toggle) else ltb 1 (n .recent)
+noDevice n =
+    true when ltb 1 (n .mode)
+    else true when ltb 1 (n .recent)
+    else true when ltb 1 (n .turned)
+    else true when ltb 1 (n .running .toggle)
+    else ltb 1 (n .suspended .toggle)
 
 -- the reply, and the lent cells as the call left them
 abbrev pub stationLeft : StationBusCall → Cycled

@@ -2,26 +2,30 @@
 -- state and cells; each command that the driver issues to an idle, unprotected chip starts that operation and no other. And
 -- the driver answers after a stated number of cycles, whatever the chip replies, and by a number that says what was replied;
 -- and takes of the value that it is given what document 01 says.
-use Prim.Native.Nat.{ℕ, _+_, _-_, _*_, _^_, _≤_, _<_}
+use Prim.Native.Nat.{ℕ, _+_, _-_, _*_, _%_, _^_, _≤_, _<_}
 use mathlib.Core.Path.{_≡_}
 use mathlib.Core.Bool.{Bool, true, false}
 use mathlib.Core.List.{List, [], _∷_}
-use lib.Dec.{eqb}
+use lib.Dec.{eqb, leb}
 use lib.ListN.{length, getD, take, replicate}
 use lib.Bits.{bitAnd}
 use Rattle.parts.specs.Names.{PROGRAM}
 use Rattle.parts.specs.Pick.{pick}
 use Rattle.parts.specs.Width.{valueOf}
-use Rattle.parts.specs.Table.{rowOf}
+use Rattle.parts.specs.Table.{rowOf, partRefusal}
 use Rattle.parts.specs.Time.{pollsOf}
 use Rattle.chip.specs.declared.device.Device.{Device}
 use Rattle.chip.specs.declared.device.Operation.{Operation}
-use Rattle.chip.specs.Device.{busyWith, device, freshDevice, idle}
-use Rattle.chip.specs.Sequence.{ignored}
-use Rattle.chip.specs.declared.cycle.Action.the-variants.{Read}
-use Rattle.chip.specs.Cycle.{cycle, Chip, chip, afterTime, actedOf}
-use Rattle.chip.specs.Trace.{play, startedBy, startedIn, uncutAction}
-use Rattle.chip.specs.Recent.{DifferButSeven, recentOnce, none}
+use Rattle.commands.specs.declared.effect.Mode.the-variants.{ReadMode}
+use Rattle.commands.specs.Commands.{effectOf}
+use Rattle.chip.specs.Device.{noOperation, withLeft, restarted, core, busyWith, busy, held, device, rested, suspendable, deviceInRange, idle}
+use Rattle.chip.specs.Sequence.{ignored, afterEffect, writtenOf}
+use Rattle.chip.specs.declared.cycle.Action.the-variants.{Read, Write}
+use Rattle.chip.specs.declared.cycle.Cycle.{Cycle}
+use Rattle.chip.specs.Cycle.{cycle, Chip, chip, afterTime, veils, cycleRefusal, actedOf}
+use Rattle.chip.specs.Trace.{after, play, startedIn, uncutAction, uncut}
+use Rattle.chip.specs.Recent.{DifferButSeven, recentOnce}
+use Rattle.chip.specs.Suspended.{stays, Stands}
 use Rattle.driver.specs.declared.machine.Phase.{Phase}
 use Rattle.driver.specs.declared.machine.Phase.the-variants.{Writing, Polling, Confirming, Done, GaveUp, Differs}
 use Rattle.driver.specs.declared.machine.Step.{Step}
@@ -90,12 +94,12 @@ abbrev pub talked : (s : StartedDriver) → ChipFor (startAsked s) → ℕ → T
 talked s h n = talk (s .steps) (startAsked s .part) (h .wp) n (firstNamed s) (chip (h .cells) (h .device))
 
 -- an end after so many polls, Done 0, GaveUp 11, Differs 12: the writes, these polls and, unless it gave up, one confirming
--- read are sent; the operation has completed on the cells, the device is fresh; the polls are in the last step
+-- read are sent; the operation has completed on the cells, the device is idle again; the polls are in the last step
 abbrev pub endedWith : (g : ToStart) → ChipFor g → ℕ → Phase → Told
 endedWith g h m f =
     told
     (operationCycles (rowOf (g .part)) (h .wp) (g .command) (g .address) (g .word) (g .p) m f)
-    (chip (completed (rowOf (g .part)) (g .command) (g .address) (g .word) (h .cells)) freshDevice)
+    (chip (completed (rowOf (g .part)) (g .command) (g .address) (g .word) (h .cells)) (rested (h .device)))
     (ended (moved (begun (g .part) (g .command) (g .address) (g .word) (g .p)) Polling m) f)
 
 -- the last cycle that a driver named was no read, or it has ended
@@ -128,23 +132,42 @@ pub record Demand2 : Type 0 where
   pub cycle-acts : (c : BusCall) → let g = onBus c in refusedCycle g ≡ 0
       → let r = rowOf (g .part) in
       busLeft c ≡ actedOf r (afterTime r (chip (g .cells) (g .device)) (g .cycle .elapsed)) (g .cycle .wp) (g .cycle .action)
-  -- After such a cycle a completion is 0 µs old exactly where the cycle cut no power and started nothing, and carried just the
-  -- time that was left of what ran, or none where a completion was 0 µs old before (document 02, Wish 1).
+  -- After such a cycle a completion is 0 µs old exactly where the cycle cut no power, nothing runs, and it carried just the time
+  -- that was left of what ran, or none where a completion was 0 µs old before (document 02, Wish 1).
   pub recent-exactly : (c : BusCall) → let g = onBus c in refusedCycle g ≡ 0
-      → let h = chip (g .cells) (g .device) in
-      busLeft c .reply .device .core .recent
-      ≡ pick (uncutAction (g .cycle .action)) (pick (none (startedBy (g .part) h (g .cycle))) (recentOnce (g .device .core) (g .cycle .elapsed)) false) false
+      → busLeft c .reply .device .core .recent
+      ≡ pick (uncutAction (g .cycle .action)) (pick (busy (busLeft c .reply .device .core)) false (recentOnce (g .device .core) (g .cycle .elapsed))) false
   -- A read with 0 µs passed since completion differs from one with some time passed in all the part's bits but 7, and in no
   -- other: two reads of an address from one state in which a completion is 0 µs old, whatever its stage and mode;
   pub word-comes-later : (c e : BusCall) → let g = onBus c in let h = onBus e in refusedCycle g ≡ 0
       → (a : ℕ) (u v : Bool) (t : ℕ) → g .device .core .recent ≡ true → g .cycle ≡ cycle 0 u (Read a)
       → h ≡ record { part = g .part; cells = g .cells; device = g .device; cycle = cycle t v (Read a) } → 0 < t
       → DifferButSeven (rowOf (g .part) .width) (c .back .value) (e .back .value)
-  -- and the read in which an operation completes with just the time that was left, and the next one, some time later.
+  -- and the read in which an operation completes with just the time that was left, where no suspended erase veils the address, and
+  -- the next one, some time later.
   pub word-comes-after-completion : (c e : BusCall) → let g = onBus c in let h = onBus e in refusedCycle g ≡ 0
-      → (a s : ℕ) (u v : Bool) (t : ℕ) → 0 < s → g .device .core .running .left ≡ s → g .cycle ≡ cycle s u (Read a)
+      → (a s : ℕ) (u v : Bool) (t : ℕ) → veils (rowOf (g .part)) (g .device .core) a ≡ false → 0 < s → g .device .core .running .left ≡ s → g .cycle ≡ cycle s u (Read a)
       → h ≡ record { part = g .part; cells = busLeft c .cells; device = busLeft c .reply .device; cycle = cycle t v (Read a) } → 0 < t
       → DifferButSeven (rowOf (g .part) .width) (c .back .value) (e .back .value)
+  -- Document 02, Wish 2. B0H at any address while a sector or block erase runs, once the cycle's time has passed, on a part that can
+  -- suspend: suspended with what is left then, read mode, no sequence begun, and no cell changed.
+  pub erase-suspended : (part : ℕ) (h : Chip) (e : ℕ) (wp : Bool) (a x : ℕ) → cycleRefusal part (length (h .cells)) (h .device) (Write a x) ≡ 0
+      → let o = h .device .core .running in
+      e < o .left → suspendable (rowOf part) (o .kind) ≡ true → x % 256 ≡ 0xb0
+      → after part h (cycle e wp (Write a x)) ≡ chip (h .cells) (device (core ReadMode false false noOperation (restarted (withLeft o (o .left - e)))) 0)
+  -- Whatever is then read, written or waited, as long as it is not resumed and no power is cut, its time stands still, no cell of
+  -- its range changes, and another cell only by a program that ran or was started there (`Stands`).
+  pub suspended-stands : (part : ℕ) (cs : List Cycle) (h : Chip) → uncut cs ≡ true → stays part h cs ≡ true → Stands (rowOf part) h (play part h cs) (startedIn part h cs)
+  -- After any such cycles 30H at any address, with nothing running once its cycle's time has passed and no sequence begun: the
+  -- erase runs on with what was left when it was suspended, and nothing is suspended.
+  pub erase-resumed : (part : ℕ) (cs : List Cycle) (h : Chip) → uncut cs ≡ true → stays part h cs ≡ true → (e : ℕ) (wp : Bool) (a x : ℕ)
+      → let k = play part h cs in
+      cycleRefusal part (length (k .cells)) (k .device) (Write a x) ≡ 0 → k .device .core .running .left ≤ e → k .device .stage ≡ 0 → x % 256 ≡ 0x30
+      → after part k (cycle e wp (Write a x)) .device ≡ device (core ReadMode false false (restarted (h .device .core .suspended)) noOperation) 0
+  -- The parts that can are 7 to 10; on the others nothing is suspended in any state in range, and B0H and 30H are what they were.
+  pub parts-that-suspend : (part : ℕ) → partRefusal part ≡ 0 → rowOf part .suspends ≡ leb 7 part
+  pub writes-plainly : (part : ℕ) → rowOf part .suspends ≡ false → (d : Device) (wp : Bool) (a x : ℕ) → deviceInRange (rowOf part) d ≡ true
+      → (held (d .core) ≡ false) × (writtenOf (rowOf part) d wp a x ≡ pick (busy (d .core)) d (afterEffect (rowOf part) (d .core) wp a x (effectOf (rowOf part) (d .stage) a x)))
   -- A command's writes, sent at 0 µs, leave the cells as they were and the device running the operation asked for, with its
   -- whole table time left.
   pub writes-run : (c : WritesCall) → let g = toWrite c in refusedWrites g ≡ 0

@@ -11,7 +11,7 @@ use Rattle.commands.specs.declared.effect.Mode.the-variants.{ReadMode, Identifi
 use Rattle.chip.specs.declared.device.Device.{Device}
 use Rattle.chip.specs.declared.cycle.Action.{Action}
 use Rattle.chip.specs.declared.cycle.Action.the-variants.{Read, Write, Idle, Cut}
-use Rattle.chip.specs.Device.{operation, core, device, freshDevice}
+use Rattle.chip.specs.Device.{operation, noOperation, core, freshCore, device, freshDevice}
 use Rattle.chip.specs.Cycle.{cycleRefusal}
 use Rattle.driver.specs.Refusals.{commandRefusal, startRefusal}
 use Rattle.driver.specs.Writes.{kthRefusal}
@@ -97,13 +97,21 @@ starts =
 -- ---- a bus cycle: 1, 2, 5, 3 (read or write), 4 (write)
 -- a device at rest at a stage; one on which a command runs, in a mode, at a stage; and either of them with a completion 0 µs old
 abbrev pub atStage : ℕ → Device
-atStage s = device (core ReadMode (operation 0 0 0 0 false) false) s
+atStage s = device freshCore s
 
 abbrev pub running : Mode → ℕ → ℕ → ℕ → ℕ → ℕ → Device
-running m k a x left s = device (core m (operation k a x left true) false) s
+running m k a x left s = device (core m false false (operation k a x left true) noOperation) s
 
 abbrev pub recentAt : Mode → ℕ → ℕ → Device
-recentAt m left s = device (core m (operation 0 7 0xff left true) true) s
+recentAt m left s = device (core m true false (operation 0 7 0xff left true) noOperation) s
+
+-- an erase suspended, in a mode, with a completion 0 µs old or not: its command, address and time left; the stage
+abbrev pub suspendedAt : Mode → Bool → ℕ → ℕ → ℕ → ℕ → Device
+suspendedAt m n k a left s = device (core m n false noOperation (operation k a 0x30 left true)) s
+
+-- a command that runs beside the suspended erase of the sector at 0
+abbrev pub besideErase : ℕ → ℕ → ℕ → Device
+besideErase k a left = device (core ReadMode false false (operation k a 0x1234 left true) (operation 1 7 0x30 36000 true)) 0
 
 abbrev pub cycles : List Answered
 cycles =
@@ -138,6 +146,25 @@ cycles =
     ∷ says 5 (Cycle 3 524288 (recentAt ReadMode 1 0) Idle)
     ∷ says 5 (Cycle 3 524288 (recentAt ReadMode 14 0) (Read 524288))
     ∷ says 3 (Cycle 3 524288 (recentAt Identification 0 6) (Read 524288))
+    -- an erase suspended on a part that can: a sector's or a block's, with no more time left than the table's, at an address of the part, at any stage and in
+    -- any mode, with a completion 0 µs old or none
+    ∷ says 0 (Cycle 7 1048576 (suspendedAt ReadMode false 1 1048575 36000 0) (Read 1048575))
+    ∷ says 0 (Cycle 10 4194304 (suspendedAt Identification true 2 4194303 18000 6) (Cut 0xffff))
+    ∷ says 5 (Cycle 6 524288 (suspendedAt ReadMode false 1 7 18000 0) Idle)
+    ∷ says 0 (Cycle 6 524288 (suspendedAt ReadMode false 1 7 0 0) Idle)
+    ∷ says 5 (Cycle 7 1048576 (suspendedAt ReadMode false 0 7 28 0) Idle)
+    ∷ says 5 (Cycle 7 1048576 (suspendedAt ReadMode false 3 7 140000 0) Idle)
+    ∷ says 5 (Cycle 7 1048576 (suspendedAt ReadMode false 1 7 36001 0) Idle)
+    ∷ says 5 (Cycle 7 1048576 (suspendedAt ReadMode false 2 1048576 36000 0) Idle)
+    ∷ says 5 (Cycle 7 1048576 (suspendedAt ReadMode false 1 7 1 7) Idle)
+    ∷ says 3 (Cycle 7 1048576 (suspendedAt ReadMode false 1 7 1 6) (Read 1048576))
+    -- beside it a program outside its range, and nothing else
+    ∷ says 0 (Cycle 7 1048576 (besideErase 0 2048 28) Idle)
+    ∷ says 5 (Cycle 7 1048576 (besideErase 0 2047 28) Idle)
+    ∷ says 5 (Cycle 7 1048576 (besideErase 1 2048 28) Idle)
+    ∷ says 5 (Cycle 7 1048576 (besideErase 2 32768 28) Idle)
+    ∷ says 5 (Cycle 7 1048576 (besideErase 3 0 28) Idle)
+    ∷ says 5 (Cycle 7 1048576 (besideErase 0 2048 29) Idle)
     -- 3 and 4 are given busy or not
     ∷ says 3 (Cycle 3 524288 (running ReadMode 0 7 0 1 0) (Read 524288))
     ∷ []

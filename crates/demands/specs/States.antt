@@ -9,6 +9,7 @@ use Rattle.chip.specs.declared.cycle.Action.{Action}
 use Rattle.chip.specs.declared.cycle.Action.the-variants.{Read, Write, Idle, Cut}
 use Rattle.job.specs.Loading.{beginLoad}
 use Rattle.numbers.specs.declared.machine.DriverNumbers.{DriverNumbers}
+use Rattle.bus.specs.declared.cycle.OperationNumbers.{OperationNumbers}
 use Rattle.bus.specs.declared.cycle.DeviceNumbers.{DeviceNumbers}
 use Rattle.numbers.specs.declared.loading.LoadingNumbers.{LoadingNumbers}
 use Rattle.numbers.specs.Machine.{steppedOf}
@@ -96,10 +97,20 @@ steps =
     ∷ gives 5 (Step (programs 0 6 1))
     ∷ []
 
--- ---- a device: mode, stage; kind, address, data, time left, toggle; recent completion
+-- ---- a device: mode, stage; kind, address, data, time left, toggle of what runs; recent completion, turned bit 2; the same five of what is suspended
+abbrev pub operates : ℕ → ℕ → ℕ → ℕ → ℕ → OperationNumbers
+operates kind a x left toggle = record { kind = kind; address = a; «data» = x; left = left; toggle = toggle }
+
+abbrev pub standsBeside : ℕ → ℕ → OperationNumbers → ℕ → ℕ → OperationNumbers → DeviceNumbers
+standsBeside mode stage o recent turned s = record { mode = mode; stage = stage; recent = recent; turned = turned; running = o; suspended = s }
+
+-- with nothing suspended
 abbrev pub stands : ℕ → ℕ → ℕ → ℕ → ℕ → ℕ → ℕ → ℕ → DeviceNumbers
-stands mode stage kind a x left toggle recent =
-    record { mode = mode; stage = stage; kind = kind; address = a; «data» = x; left = left; toggle = toggle; recent = recent }
+stands mode stage kind a x left toggle recent = standsBeside mode stage (operates kind a x left toggle) recent 0 (operates 0 0 0 0 0)
+
+-- with an erase suspended, on part 7: what runs; turned; what is suspended
+abbrev pub stands7 : OperationNumbers → ℕ → OperationNumbers → Given
+stands7 o turned s = Bus 7 1048576 (standsBeside 0 0 o 0 turned s) 1 Idle
 
 abbrev pub cycles : List Expected
 cycles =
@@ -128,6 +139,21 @@ cycles =
     -- a completion 0 µs old, at rest and beside what runs
     ∷ gives 0 (Bus 0 8192 (stands 1 6 0 0 0 0 0 1) 0 Idle)
     ∷ gives 5 (Bus 0 8192 (stands 0 0 0 8191 0 1 1 1) 0 Idle)
+    -- a turned bit 2, and a toggle of what is suspended
+    ∷ gives 5 (Bus 0 8192 (standsBeside 0 0 (operates 0 0 0 0 0) 0 2 (operates 0 0 0 0 0)) 1 (Read 0xffffffff))
+    ∷ gives 3 (Bus 0 8192 (standsBeside 0 0 (operates 0 0 0 0 0) 0 1 (operates 0 0 0 0 0)) 1 (Read 8192))
+    ∷ gives 5 (Bus 0 8192 (standsBeside 0 0 (operates 0 0 0 0 0) 0 0 (operates 0 0 0 0 2)) 1 (Read 0xffffffff))
+    ∷ gives 3 (Bus 0 8192 (standsBeside 0 0 (operates 0 0 0 0 0) 0 0 (operates 9 0xffffffff 0xffff 0 1)) 1 (Read 8192))
+    -- an erase suspended: not on the bench; on part 7 a sector's or a block's with time left, beside nothing or a program outside its range
+    ∷ gives 5 (Bus 0 8192 (standsBeside 0 0 (operates 0 0 0 0 0) 0 0 (operates 1 0 0x30 1 1)) 1 Idle)
+    ∷ gives 0 (stands7 (operates 0 0 0 0 0) 1 (operates 1 7 0x30 36000 0))
+    ∷ gives 5 (stands7 (operates 0 0 0 0 0) 1 (operates 1 7 0x30 36001 0))
+    ∷ gives 0 (stands7 (operates 0 0 0 0 0) 0 (operates 2 1048575 0x50 1 1))
+    ∷ gives 5 (stands7 (operates 0 0 0 0 0) 0 (operates 2 1048576 0x50 1 1))
+    ∷ gives 5 (stands7 (operates 0 0 0 0 0) 0 (operates 3 0 0x10 1 1))
+    ∷ gives 0 (stands7 (operates 0 2048 0 28 1) 0 (operates 1 7 0x30 36000 1))
+    ∷ gives 5 (stands7 (operates 0 2047 0 28 1) 0 (operates 1 7 0x30 36000 1))
+    ∷ gives 5 (stands7 (operates 1 2048 0x30 28 1) 0 (operates 1 7 0x30 36000 1))
     ∷ []
 
 -- ---- a begin: 1, 10, 6, 7, 8, 9; WP# is high at any level but 0

@@ -21,11 +21,11 @@ use Rattle.parts.proofs.Sound.{width-least, codes-differ, sector-not-chip, bloc
 use Rattle.chip.specs.declared.device.Core.{Core}
 use Rattle.commands.specs.declared.effect.Effect.the-variants.{Goes, Starts}
 use Rattle.chip.specs.declared.cycle.Action.the-variants.{Write as Writes}
-use Rattle.chip.specs.Device.{busyWith, busy, device}
+use Rattle.chip.specs.Device.{busyWith, agedBy, busy, held, device}
 use Rattle.commands.specs.Commands.{effectOf}
 use Rattle.chip.specs.Sequence.{ignored, newOperation}
 use Rattle.chip.specs.Cycle.{cycle, chip}
-use Rattle.chip.proofs.Cases.{write-leaves, write-starts}
+use Rattle.chip.proofs.Cases.{write-leaves, write-starts, none-held, none-resumed, only-protected}
 use Rattle.chip.proofs.Started.{Moves, Leads, ends, then}
 use Rattle.commands.specs.declared.write.Write.{Write}
 use Rattle.driver.specs.Writes.{lastWrite, writesOf}
@@ -137,15 +137,15 @@ module _ (part : ℕ) (known : partRefusal part ≡ 0) (command a x : ℕ) (targ
       Heeded : ℕ → Type 0
       Heeded k = ignored (rowOf part) wp k a ≡ false → ignored (rowOf part) wp k (lastWrite (rowOf part) k a x .address) ≡ false
 
--- ---- on the lent cells of a known part, with nothing running
-module _ (part : ℕ) (known : partRefusal part ≡ 0) (cells : List ℕ) (whole : length cells ≡ rowOf part .cells) (wp : Bool) (k : Core) (rest : busy k ≡ false) where
+-- ---- on the lent cells of a known part, with nothing running and nothing suspended
+module _ (part : ℕ) (known : partRefusal part ≡ 0) (cells : List ℕ) (whole : length cells ≡ rowOf part .cells) (wp : Bool) (k : Core) (rest : busy k ≡ false) (free : held k ≡ false) where
   module _ (s : ℕ) (le : s ≤ 6) (a x : ℕ) (there : a < rowOf part .cells) (fits : fitsIn (rowOf part .width) x ≡ true) where
     -- a write that takes the sequence on
     on : (s′ : ℕ) → effectOf (rowOf part) s a x ≡ Goes s′ → Moves part (chip cells (device k s)) (cycle 0 wp (Writes a x)) (chip cells (device k s′)) []
     on s′ e =
         record {
-          left = write-leaves part cells known whole a there k s 0 wp x rest le fits ∙ rw e;
-          starts = write-starts part cells known whole a there k s 0 wp x rest le fits ∙ rw e;
+          left = write-leaves part cells known whole a there k s 0 wp x rest (none-held k free) (none-resumed k free s x) le fits ∙ rw e;
+          starts = write-starts part cells known whole a there k s 0 wp x rest (none-held k free) (none-resumed k free s x) le fits ∙ rw e;
         }
 
     -- a write that starts an operation
@@ -153,8 +153,8 @@ module _ (part : ℕ) (known : partRefusal part ≡ 0) (cells : List ℕ) (whole
         → Moves part (chip cells (device k s)) (cycle 0 wp (Writes a x)) (chip cells (device (busyWith k (newOperation (rowOf part) c a x)) 0)) (newOperation (rowOf part) c a x ∷ [])
     starts-it c e i =
         record {
-          left = write-leaves part cells known whole a there k s 0 wp x rest le fits ∙ rw (e, i);
-          starts = write-starts part cells known whole a there k s 0 wp x rest le fits ∙ rw (e, i);
+          left = write-leaves part cells known whole a there k s 0 wp x rest (none-held k free) (none-resumed k free s x) le fits ∙ rw (e, only-protected (agedBy k 0) free (rowOf part) wp c a, i);
+          starts = write-starts part cells known whole a there k s 0 wp x rest (none-held k free) (none-resumed k free s x) le fits ∙ rw (e, only-protected (agedBy k 0) free (rowOf part) wp c a, i);
         }
 
   -- a byte at U1, and at U2

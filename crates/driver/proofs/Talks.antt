@@ -24,17 +24,18 @@ use Rattle.chip.specs.declared.device.Device.{Device}
 use Rattle.chip.specs.declared.cycle.Action.{Action}
 use Rattle.chip.specs.declared.cycle.Action.the-variants.{Read}
 use Rattle.chip.specs.declared.cycle.Cycle.{Cycle}
-use Rattle.chip.specs.Device.{operation, busyWith, atRest, busy, device, coreIdle}
+use Rattle.chip.specs.Device.{operation, withTurned, busyWith, atRest, busy, held, device, coreIdle}
 use Rattle.chip.specs.Operation.{cellsOf, completeOn}
 use Rattle.chip.specs.Sequence.{ignored}
-use Rattle.chip.specs.Cycle.{cycle, Chip, chip, Outcome, outcome, cycleOf, status, bit6, outputsOf}
+use Rattle.chip.specs.Cycle.{cycle, Chip, chip, Outcome, outcome, cycleOf, bit7, bit6, bit2, tells, status, outputsOf}
 use Rattle.chip.specs.Trace.{leaves, after, play, startedBy, startedIn}
-use Rattle.chip.proofs.Accepted.{Valid, inside-cells}
+use Rattle.chip.proofs.Accepted.{Valid, valid-range}
+use Rattle.chip.proofs.Bits.{bit6-le, bit2-le}
 use Rattle.chip.proofs.Settled.{complete-length}
-use Rattle.chip.proofs.Idle.{idle-rests}
+use Rattle.chip.proofs.Idle.{idle-rests, idle-free}
 use Rattle.chip.proofs.Outputs.{keeps-seven}
 use Rattle.chip.proofs.Started.{last-starts-all, Leads}
-use Rattle.chip.proofs.Cases.{read-later, read-busy, read-done}
+use Rattle.chip.proofs.Cases.{read-later, read-busy, read-done, none-barred}
 use Rattle.commands.specs.declared.write.Write.{Write}
 use Rattle.driver.specs.declared.machine.Phase.{Phase}
 use Rattle.driver.specs.declared.machine.Phase.the-variants.{Writing, Polling, Confirming, Done, GaveUp, Differs}
@@ -244,18 +245,15 @@ module _ (b : Driver) (accepted : startRefusal (b .part) (b .command) (b .addres
   at-there =
       split (λ (n : ℕ). n < r .cells) (eqb (b .command) 3) 0 (b .address) (λ _. cells-some (b .part) known) (λ n. valid .asked .target .there (eqb-false (b .command) 3 n))
 
-  -- bit 7 of a busy read does not match
-  busy-differs : (l : ℕ) (t : Bool) → bitSeven (status (running l t)) ≡ bitWanted (b .command) (b .«data») → ⊥
+  -- bit 7 of a busy read does not match, whatever bits 6 and 2 are
+  busy-differs : (l : ℕ) (t : Bool) (two : ℕ) → two ≤ 1 → bitSeven (bit7 (running l t) * 128 + bit6 (running l t) * 64 + two * 4) ≡ bitWanted (b .command) (b .«data») → ⊥
   unfolding lastWrite
-  busy-differs l t = by (eqb (b .command) 0) _
+  busy-differs l t two low = by (eqb (b .command) 0) _
     where
-      six : bit6 (running l t) ≤ 1
-      six = split (λ (n : ℕ). n ≤ 1) t 1 0 (λ _. omega arith) (λ _. omega arith)
-
       by : (z : Bool) (ws : Write)
-          → bitSeven (pick z (1 - pick z (write (b .address) (b .«data»)) ws .«data» / 128 % 2) 0 * 128 + bit6 (running l t) * 64) ≡ pick z (bitSeven (b .«data»)) 1 → ⊥
-      by true ws e = omega (arith, six)
-      by false ws e = omega (arith, six)
+          → bitSeven (pick z (1 - pick z (write (b .address) (b .«data»)) ws .«data» / 128 % 2) 0 * 128 + bit6 (running l t) * 64 + two * 4) ≡ pick z (bitSeven (b .«data»)) 1 → ⊥
+      by true ws e = omega (arith, bit6-le (running l t))
+      by false ws e = omega (arith, bit6-le (running l t))
 
   -- the cells once it has completed, and what a read at the address shows then
   module _ (cells : List ℕ) (whole : length cells ≡ r .cells) (core : Core) (idles : coreIdle core ≡ true) where
@@ -283,11 +281,23 @@ module _ (b : Driver) (accepted : startRefusal (b .part) (b .command) (b .addres
     same-hit true = ap (λ (n : ℕ). eqb n (bitWanted (b .command) (b .«data»))) (keeps-seven (r .width) (width-least (b .part) known) shown)
     same-hit false = refl
 
-    abbrev busyAt : ℕ → Bool → Device
-    busyAt l t = device (busyWith core (running l t)) 0
+    -- while it runs: bit 6 to come, and whether bit 2 has turned
+    abbrev busyCore : ℕ → Bool → Bool → Core
+    busyCore l t u = withTurned (busyWith core (running l t)) u
 
-    running-valid : (l : ℕ) (t : Bool) → l ≤ timeOf r (b .command) → Valid r (busyWith core (running l t))
-    running-valid l t h =
+    abbrev busyAt : ℕ → Bool → Bool → Device
+    busyAt l t u = device (busyCore l t u) 0
+
+    -- and after a poll, which shows bit 2 or does not
+    abbrev turns-to : ℕ → Bool → Bool → Bool
+    turns-to l t u = pick (tells r (running l t) at) (not u) u
+
+    -- nothing is suspended
+    free : held core ≡ false
+    free = idle-free core idles
+
+    running-valid : (l : ℕ) (t u : Bool) → l ≤ timeOf r (b .command) → Valid r (busyCore l t u)
+    running-valid l t u h =
         record {
           command = valid .asked .target .has;
           time = h;
@@ -295,7 +305,17 @@ module _ (b : Driver) (accepted : startRefusal (b .part) (b .command) (b .addres
           fits = last-fits (b .part) known (b .command) (b .address) (b .«data») (valid .asked .target);
           mode = refl;
           old = refl;
+          free = none-barred core free r (running l t .kind) (running l t .address);
         }
+
+    -- a poll while it runs
+    abbrev busyShows : ℕ → Bool → Bool → ℕ
+    busyShows l t u = status r (busyCore l t u) at
+
+    read-waits : (l : ℕ) (t u : Bool) → l ≤ timeOf r (b .command) → b .p < l
+        → cycleOf (b .part) cells (busyAt l t u) poll ≡ outcome cells (busyShows l t u) (busyAt (l - b .p) (not t) (turns-to l t u))
+    read-waits l t u most-time early =
+        read-busy (b .part) cells known whole at at-there (busyCore l t u) (b .p) wp (valid-range r (busyCore l t u) free (running-valid l t u most-time)) early
 
     -- what completes does not hang on the time left, nor on bit 6
     same-done : (l : ℕ) (t : Bool) → completeOn r (running l t) cells ≡ done
@@ -303,10 +323,10 @@ module _ (b : Driver) (accepted : startRefusal (b .part) (b .command) (b .addres
     same-done l t = refl
 
     -- the read in which it completes
-    read-completes : (l : ℕ) (t : Bool) → 0 < l → l ≤ b .p → l ≤ timeOf r (b .command)
-        → cycleOf (b .part) cells (busyAt l t) poll ≡ outcome done (shownAt (eqb (b .p) l)) (device (finished (eqb (b .p) l)) 0)
-    read-completes l t some late most-time =
-        read-done (b .part) cells known whole at at-there (busyWith core (running l t)) (b .p) wp (running-valid l t most-time) some late
+    read-completes : (l : ℕ) (t u : Bool) → 0 < l → l ≤ b .p → l ≤ timeOf r (b .command)
+        → cycleOf (b .part) cells (busyAt l t u) poll ≡ outcome done (shownAt (eqb (b .p) l)) (device (finished (eqb (b .p) l)) 0)
+    read-completes l t u some late most-time =
+        read-done (b .part) cells known whole at at-there (busyCore l t u) (b .p) wp free (running-valid l t u most-time) some late
         ∙ ap (λ (xs : List ℕ). outcome xs (outputsOf (r .width) (eqb (b .p) l) (valueOf (r .width) (getD xs at 0))) (device (finished (eqb (b .p) l)) 0)) (same-done l t)
 
     -- one poll less, and as much less is left
@@ -315,35 +335,35 @@ module _ (b : Driver) (accepted : startRefusal (b .part) (b .command) (b .addres
         let e : suc (suc k) * b .p ≡ suc k * b .p + b .p = suc-mul (suc k) (b .p) in
         same-test (suc k * b .p) (l - b .p) (suc (suc k) * b .p) l (λ q. omega arith) (λ q. omega arith) ∙ just
 
-    waiting : (l q n : ℕ) (t : Bool) → b .p < l → l ≤ timeOf r (b .command) → q + 1 < most b
-        → talk stepOf (b .part) wp (suc n) (polls (moved b Polling q)) (chip cells (busyAt l t))
-        ≡ led poll (talk stepOf (b .part) wp n (polls (moved b Polling (q + 1))) (chip cells (busyAt (l - b .p) (not t))))
-    waiting l q n t early most-time more =
-        sends (b .part) wp n 0 (b .p) (q + 1) (moved b Polling (q + 1)) (Read at) (chip cells (busyAt l t)) _
-        (read-busy (b .part) cells known whole at at-there (busyWith core (running l t)) (b .p) wp (running-valid l t most-time) early)
-        ∙ ap (λ (s : Step). led poll (talk stepOf (b .part) wp n s (chip cells (busyAt (l - b .p) (not t)))))
-        (poll-again (q + 1) (status (running l t)) (omega arith) (omega arith) (ne-eqb (bitSeven (status (running l t))) (bitWanted (b .command) (b .«data»)) (busy-differs l t)) more)
+    waiting : (l q n : ℕ) (t u : Bool) → b .p < l → l ≤ timeOf r (b .command) → q + 1 < most b
+        → talk stepOf (b .part) wp (suc n) (polls (moved b Polling q)) (chip cells (busyAt l t u))
+        ≡ led poll (talk stepOf (b .part) wp n (polls (moved b Polling (q + 1))) (chip cells (busyAt (l - b .p) (not t) (turns-to l t u))))
+    waiting l q n t u early most-time more =
+        sends (b .part) wp n 0 (b .p) (q + 1) (moved b Polling (q + 1)) (Read at) (chip cells (busyAt l t u)) _ (read-waits l t u most-time early)
+        ∙ ap (λ (s : Step). led poll (talk stepOf (b .part) wp n s (chip cells (busyAt (l - b .p) (not t) (turns-to l t u)))))
+        (poll-again (q + 1) (busyShows l t u) (omega arith) (omega arith)
+        (ne-eqb (bitSeven (busyShows l t u)) (bitWanted (b .command) (b .«data»)) (busy-differs l t (bit2 (busyCore l t u) (tells r (running l t) at)) (bit2-le (busyCore l t u) (tells r (running l t) at)))) more)
 
-    completing : (l q n : ℕ) (t : Bool) → 0 < l → l ≤ b .p → l ≤ timeOf r (b .command)
-        → talk stepOf (b .part) wp (suc n) (polls (moved b Polling q)) (chip cells (busyAt l t))
+    completing : (l q n : ℕ) (t u : Bool) → 0 < l → l ≤ b .p → l ≤ timeOf r (b .command)
+        → talk stepOf (b .part) wp (suc n) (polls (moved b Polling q)) (chip cells (busyAt l t u))
         ≡ led poll (talk stepOf (b .part) wp n (stepOf (moved b Polling (q + 1)) (shownAt (eqb (b .p) l))) (restedAt (eqb (b .p) l)))
-    completing l q n t some late most-time =
-        sends (b .part) wp n 0 (b .p) (q + 1) (moved b Polling (q + 1)) (Read at) (chip cells (busyAt l t)) _ (read-completes l t some late most-time)
+    completing l q n t u some late most-time =
+        sends (b .part) wp n 0 (b .p) (q + 1) (moved b Polling (q + 1)) (Read at) (chip cells (busyAt l t u)) _ (read-completes l t u some late most-time)
 
     -- k polls come too early, and one more does not: it comes 0 µs after the completion where it has taken just what was left
-    polling : (k l q n m : ℕ) (t now : Bool) → k * b .p < l → l ≤ suc k * b .p → eqb (suc k * b .p) l ≡ now → l ≤ timeOf r (b .command) → q + suc k ≤ most b → n ≡ suc k + m
-        → talk stepOf (b .part) wp n (polls (moved b Polling q)) (chip cells (busyAt l t))
+    polling : (k l q n m : ℕ) (t u now : Bool) → k * b .p < l → l ≤ suc k * b .p → eqb (suc k * b .p) l ≡ now → l ≤ timeOf r (b .command) → q + suc k ≤ most b → n ≡ suc k + m
+        → talk stepOf (b .part) wp n (polls (moved b Polling q)) (chip cells (busyAt l t u))
         ≡ sent (replicate (suc k) poll) (talk stepOf (b .part) wp m (stepOf (moved b Polling (q + suc k)) (shownAt now)) (restedAt now))
-    polling k l q zero m t now early enough just most-time within fuel = absurd (omega arith)
-    polling zero l q (suc n) m t now early enough just most-time within fuel =
+    polling k l q zero m t u now early enough just most-time within fuel = absurd (omega arith)
+    polling zero l q (suc n) m t u now early enough just most-time within fuel =
         let e : n ≡ m = omega arith in
-        completing l q n t (omega (arith, zero-mul (b .p))) (omega (arith, one-mul (b .p))) most-time ∙ rw (e, rw (one-mul (b .p)) at just)
-    polling (suc k) l q (suc n) m t now early enough just most-time within fuel =
+        completing l q n t u (omega (arith, zero-mul (b .p))) (omega (arith, one-mul (b .p))) most-time ∙ rw (e, rw (one-mul (b .p)) at just)
+    polling (suc k) l q (suc n) m t u now early enough just most-time within fuel =
         let e : suc k * b .p ≡ k * b .p + b .p = suc-mul k (b .p) in
         let e′ : suc (suc k) * b .p ≡ suc k * b .p + b .p = suc-mul (suc k) (b .p) in
         let c : q + 1 + suc k ≡ q + suc (suc k) = omega arith in
-        waiting l q n t (omega arith) most-time (omega arith)
-        ∙ ap (led poll) (polling k (l - b .p) (q + 1) n m (not t) now (omega arith) (omega arith) (just-less k l now (omega arith) just) (omega arith) (omega arith) (omega arith) ∙ rw c)
+        waiting l q n t u (omega arith) most-time (omega arith)
+        ∙ ap (led poll) (polling k (l - b .p) (q + 1) n m (not t) (turns-to l t u) now (omega arith) (omega arith) (just-less k l now (omega arith) just) (omega arith) (omega arith) (omega arith) ∙ rw c)
 
     -- N polls, from the driver's first; the last of them comes just at the completion, or after it
     abbrev turns : ℕ
@@ -370,17 +390,16 @@ module _ (b : Driver) (accepted : startRefusal (b .part) (b .command) (b .addres
             let i : turns - 1 ≡ k = omega arith in
             let short : k * b .p < T = rw i at (below T (b .p) (valid .some) some-time) in
             let long : T ≤ suc k * b .p = rw e at (reaches T (b .p) (valid .some)) in
-            polling k T 0 n m true just short long (ap (λ (n : ℕ). eqb (n * b .p) T) (sym e)) (omega arith) (omega arith) (omega arith) ∙ rw (c, e)
+            polling k T 0 n m true false just short long (ap (λ (n : ℕ). eqb (n * b .p) T) (sym e)) (omega arith) (omega arith) (omega arith) ∙ rw (c, e)
 
     done-whole : length done ≡ r .cells
     done-whole =
         let o = operationOf r (b .command) (b .address) (b .«data») in
-        let there = last-there (b .part) known (b .command) (b .address) (b .«data») (valid .asked .target) in
-        complete-length r o cells (rw whole (inside-cells (b .part) known o (valid .asked .target .has) there)) ∙ whole
+        complete-length r o cells ∙ whole
 
     -- a read after some time at rest shows the value
     reads : (now : Bool) (e : ℕ) → 0 < e → cycleOf (b .part) done (device (finished now) 0) (cycle e wp (Read at)) ≡ outcome done shown (device (finished false) 0)
-    reads now e some = read-later (b .part) done known done-whole at at-there (finished now) e wp refl refl some
+    reads now e some = read-later (b .part) done known done-whole at at-there (finished now) e wp refl free refl some
 
     -- and the confirming read is one
     confirm-later : 0 < confirmAfter
@@ -388,17 +407,17 @@ module _ (b : Driver) (accepted : startRefusal (b .part) (b .command) (b .addres
     confirm-later = omega arith
 
     -- ---- the same by their places, whatever follows
-    polling-placed : (k l : ℕ) (t now : Bool) (cs : List Cycle) → k * b .p < l → l ≤ suc k * b .p → eqb (suc k * b .p) l ≡ now → l ≤ timeOf r (b .command)
-        → placesIn (b .part) Polls (chip cells (busyAt l t)) (replicate (suc k) poll ++ cs) ≡ replicate (suc k) (ARead Polls) ++ placesIn (b .part) Confirms (restedAt now) cs
-    polling-placed zero l t now cs early enough just most-time =
-        read-placed (b .part) Polls (chip cells (busyAt l t)) (b .p) wp at cs _ (read-completes l t (omega (arith, zero-mul (b .p))) (omega (arith, one-mul (b .p))) most-time)
+    polling-placed : (k l : ℕ) (t u now : Bool) (cs : List Cycle) → k * b .p < l → l ≤ suc k * b .p → eqb (suc k * b .p) l ≡ now → l ≤ timeOf r (b .command)
+        → placesIn (b .part) Polls (chip cells (busyAt l t u)) (replicate (suc k) poll ++ cs) ≡ replicate (suc k) (ARead Polls) ++ placesIn (b .part) Confirms (restedAt now) cs
+    polling-placed zero l t u now cs early enough just most-time =
+        read-placed (b .part) Polls (chip cells (busyAt l t u)) (b .p) wp at cs _ (read-completes l t u (omega (arith, zero-mul (b .p))) (omega (arith, one-mul (b .p))) most-time)
         ∙ rw (rw (one-mul (b .p)) at just)
-    polling-placed (suc k) l t now cs early enough just most-time =
+    polling-placed (suc k) l t u now cs early enough just most-time =
         let e : suc k * b .p ≡ k * b .p + b .p = suc-mul k (b .p) in
         let e′ : suc (suc k) * b .p ≡ suc k * b .p + b .p = suc-mul (suc k) (b .p) in
-        read-placed (b .part) Polls (chip cells (busyAt l t)) (b .p) wp at (replicate (suc k) poll ++ cs) _
-        (read-busy (b .part) cells known whole at at-there (busyWith core (running l t)) (b .p) wp (running-valid l t most-time) (omega arith))
-        ∙ rw (lt-ltb 0 (l - b .p) (omega arith)) (ap (λ (ps : List Place). ARead Polls ∷ ps) (polling-placed k (l - b .p) (not t) now cs (omega arith) (omega arith) (just-less k l now (omega arith) just) (omega arith)))
+        read-placed (b .part) Polls (chip cells (busyAt l t u)) (b .p) wp at (replicate (suc k) poll ++ cs) _
+        (read-waits l t u most-time (omega arith))
+        ∙ rw (lt-ltb 0 (l - b .p) (omega arith)) (ap (λ (ps : List Place). ARead Polls ∷ ps) (polling-placed k (l - b .p) (not t) (turns-to l t u) now cs (omega arith) (omega arith) (just-less k l now (omega arith) just) (omega arith)))
 
     polls-placed : (cs : List Cycle) → placesIn (b .part) Polls (chip cells (device (busyWith core (operationOf r (b .command) (b .address) (b .«data»))) 0)) (replicate turns poll ++ cs)
         ≡ replicate turns (ARead Polls) ++ placesIn (b .part) Confirms (restedAt just) cs
@@ -414,7 +433,7 @@ module _ (b : Driver) (accepted : startRefusal (b .part) (b .command) (b .addres
             let i : turns - 1 ≡ k = omega arith in
             let short : k * b .p < T = rw i at (below T (b .p) (valid .some) some-time) in
             let long : T ≤ suc k * b .p = rw e at (reaches T (b .p) (valid .some)) in
-            rw e (polling-placed k T true (eqb (suc k * b .p) T) cs short long refl (omega arith))
+            rw e (polling-placed k T true false (eqb (suc k * b .p) T) cs short long refl (omega arith))
 
     confirm-placed : (now : Bool) (cs : List Cycle) → placesIn (b .part) Confirms (restedAt now) (cycle confirmAfter wp (Read at) ∷ cs) ≡ ARead Confirms ∷ placesIn (b .part) Scans rested cs
     confirm-placed now cs = read-placed (b .part) Confirms (restedAt now) confirmAfter wp at cs _ (reads now confirmAfter confirm-later)
@@ -423,19 +442,19 @@ module _ (b : Driver) (accepted : startRefusal (b .part) (b .command) (b .addres
     abbrev LastPoll : Bool → Chip → Type 0
     LastPoll now h = (shows (b .part) h poll ≡ shownAt now) × (after (b .part) h poll ≡ restedAt now)
 
-    last-shows : (k l : ℕ) (t now : Bool) → k * b .p < l → l ≤ suc k * b .p → eqb (suc k * b .p) l ≡ now → l ≤ timeOf r (b .command)
-        → LastPoll now (play (b .part) (chip cells (busyAt l t)) (replicate k poll))
+    last-shows : (k l : ℕ) (t u now : Bool) → k * b .p < l → l ≤ suc k * b .p → eqb (suc k * b .p) l ≡ now → l ≤ timeOf r (b .command)
+        → LastPoll now (play (b .part) (chip cells (busyAt l t u)) (replicate k poll))
     unfolding after
-    last-shows zero l t now early enough just most-time =
-        let o = read-completes l t (omega (arith, zero-mul (b .p))) (omega (arith, one-mul (b .p))) most-time in
+    last-shows zero l t u now early enough just most-time =
+        let o = read-completes l t u (omega (arith, zero-mul (b .p))) (omega (arith, one-mul (b .p))) most-time in
         let n : eqb (b .p) l ≡ now = rw (one-mul (b .p)) at just in
         (ap (λ (o : Outcome). o .reply .value) o ∙ ap shownAt n, ap leaves o ∙ ap restedAt n)
-    last-shows (suc k) l t now early enough just most-time =
+    last-shows (suc k) l t u now early enough just most-time =
         let e : suc k * b .p ≡ k * b .p + b .p = suc-mul k (b .p) in
         let e′ : suc (suc k) * b .p ≡ suc k * b .p + b .p = suc-mul (suc k) (b .p) in
-        let o = read-busy (b .part) cells known whole at at-there (busyWith core (running l t)) (b .p) wp (running-valid l t most-time) (omega arith) in
+        let o = read-waits l t u most-time (omega arith) in
         subst (λ (h : Chip). LastPoll now (play (b .part) h (replicate k poll))) (sym (ap leaves o))
-        (last-shows k (l - b .p) (not t) now (omega arith) (omega arith) (just-less k l now (omega arith) just) (omega arith))
+        (last-shows k (l - b .p) (not t) (turns-to l t u) now (omega arith) (omega arith) (just-less k l now (omega arith) just) (omega arith))
 
     -- ---- the end: bit 7 matches
     confirming : (q n : ℕ) (now : Bool) → 0 < q → q ≤ most b → hits shown ≡ true
@@ -475,7 +494,7 @@ module _ (b : Driver) (accepted : startRefusal (b .part) (b .command) (b .addres
       o = operationOf r (b .command) (b .address) (b .«data»)
 
       leads : Leads (b .part) (chip cells (device core 0)) writeList (chip cells (device (busyWith core o) 0)) (o ∷ [])
-      leads = command-leads (b .part) known cells whole wp core (idle-rests core idles) (b .command) (b .address) (b .«data») (valid .asked .target) heeded
+      leads = command-leads (b .part) known cells whole wp core (idle-rests core idles) free (b .command) (b .address) (b .«data») (valid .asked .target) heeded
 
       played : play (b .part) (chip cells (device core 0)) writeList ≡ chip cells (device (busyWith core o) 0)
       played = leads .played
@@ -500,7 +519,7 @@ module _ (b : Driver) (accepted : startRefusal (b .part) (b .command) (b .addres
           let some : 0 < turns = positive T (b .p) (valid .some) some-time in
           let e : suc (turns - 1) ≡ turns = omega arith in
           let long : T ≤ suc (turns - 1) * b .p = rw e (reaches T (b .p) (valid .some)) in
-          rw played (last-shows (turns - 1) T true just (below T (b .p) (valid .some) some-time) long (ap (λ (n : ℕ). eqb (n * b .p) T) e) (omega arith))
+          rw played (last-shows (turns - 1) T true false just (below T (b .p) (valid .some) some-time) long (ap (λ (n : ℕ). eqb (n * b .p) T) e) (omega arith))
 
       -- the N-th poll shows the word as the outputs are 0 µs after the completion, or later
       pub nth-shows : shows (b .part) (polled (turns - 1)) poll ≡ shownAt just

@@ -18,7 +18,7 @@ use Rattle.chip.specs.declared.device.Device.{Device}
 use Rattle.chip.specs.declared.device.Operation.{Operation}
 use Rattle.chip.specs.declared.cycle.Action.the-variants.{Read}
 use Rattle.chip.specs.declared.cycle.Cycle.{Cycle}
-use Rattle.chip.specs.Device.{busyWith, device, freshDevice, coreIdle, idle}
+use Rattle.chip.specs.Device.{busyWith, device, rested, coreIdle, idle}
 use Rattle.chip.specs.Sequence.{ignored}
 use Rattle.chip.specs.Cycle.{cycle, Chip, chip, outputsOf}
 use Rattle.chip.specs.Trace.{play, startedIn}
@@ -37,7 +37,7 @@ use Rattle.driver.proofs.Asked as Asked
 use Rattle.driver.proofs.Steps.{refuses, most, StepInRange, kept, few-polls, falls, asks-on, final-polls, final-writing}
 use Rattle.driver.proofs.Named.{namedIn, namedBy, names, asCycle, cycles-are, cycles-few}
 use Rattle.driver.proofs.Within.{over, stands}
-use Rattle.chip.proofs.Idle.{idle-is, idle-rests}
+use Rattle.chip.proofs.Idle.{idle-is, idle-rests, idle-free}
 use Rattle.chip.proofs.Outputs.{keeps-seven}
 use Rattle.chip.proofs.Started.{LastStarts, last-starts-all, Leads}
 use Rattle.driver.proofs.Commands.{command-leads}
@@ -66,7 +66,7 @@ module _ (part command address word : ℕ) (wp : Bool) (cells : List ℕ) (d : D
   leads =
       let w = Asked.asked part command address word accepted in
       let i = idle-is d rest in
-      rw (i .0) (command-leads part (w .known) cells whole wp (d .core) (idle-rests (d .core) (i .1)) command address word (w .target) heeded)
+      rw (i .0) (command-leads part (w .known) cells whole wp (d .core) (idle-rests (d .core) (i .1)) (idle-free (d .core) (i .1)) command address word (w .target) heeded)
 
   -- The last of them starts it, and those before start nothing.
   pub last-write-starts : LastStarts part (chip cells d) cs (o ∷ [])
@@ -109,7 +109,7 @@ module _ (part command address word p : ℕ) (wp : Bool) (cells : List ℕ) (d :
 
   -- the chip that it leaves: the operation completed on the cells, and the device idle
   abbrev leaving : Chip
-  leaving = chip (completed r command address word cells) freshDevice
+  leaving = chip (completed r command address word cells) (rested d)
 
   -- its end, after so many polls: the number of the ending, and the polls in the result
   abbrev ending-with : ℕ → Phase → Step

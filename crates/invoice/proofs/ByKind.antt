@@ -12,7 +12,8 @@ use Rattle.parts.specs.Time.{hasCommand}
 use Rattle.parts.specs.declared.table.Row.{Row}
 use Rattle.parts.proofs.Every.{unless}
 use Rattle.chip.specs.declared.device.Operation.{Operation}
-use Rattle.chip.proofs.Started.{Startable, All}
+use Rattle.chip.specs.Trace.{All}
+use Rattle.chip.proofs.Started.{Startable}
 use Rattle.job.specs.declared.run.Tally.{Tally}
 use Rattle.invoice.specs.Started.{many}
 use Rattle.invoice.proofs.Apiece.{Counts}

@@ -19,7 +19,7 @@ use Rattle.parts.specs.declared.table.Row.{Row}
 use Rattle.chip.specs.Sequence.{ignored}
 use Rattle.chip.specs.declared.cycle.Action.the-variants.{Read}
 use Rattle.chip.specs.declared.device.Operation.{Operation}
-use Rattle.chip.specs.Device.{freshDevice}
+use Rattle.chip.specs.Device.{rested}
 use Rattle.chip.specs.Cycle.{cycle, Chip, chip}
 use Rattle.chip.specs.Trace.{after, play}
 use Rattle.chip.proofs.Idle.{fresh-idle}
@@ -73,7 +73,7 @@ module _ (j : Job) (image : List ℕ) (R : AcceptedJob j image) where
 
   -- ---- one operation, from a world at rest, where the value shown then is the wanted one
   operation-leaves : (command a x : ℕ) → command ≤ 1 → startRefusal (j .part) command a x (j .p) ≡ 0 → ignored r (j .wp) command a ≡ false → (w : World) → Ready j image R w
-      → shownAfter r command a x (w .cells) ≡ valueWanted r command x → chipOf (playOf (j .part) w (operated j command a x)) ≡ chip (completed r command a x (w .cells)) freshDevice
+      → shownAfter r command a x (w .cells) ≡ valueWanted r command x → chipOf (playOf (j .part) w (operated j command a x)) ≡ chip (completed r command a x (w .cells)) (rested (w .held .device))
   operation-leaves command a x few accepted heeded w g same =
       let n = writeCount command + pollsOf r command (j .p) + 1 in
       let first = stepOf (startOf (j .part) command a x (j .p) .driver) 0 in
@@ -114,7 +114,7 @@ module _ (j : Job) (image : List ℕ) (R : AcceptedJob j image) where
       let done : playOf (j .part) w (operated j 0 a x) .cells ≡ completed r 0 a x (w .cells) = ap (λ (h : Chip). h .cells) c in
       let e = done ∙ program-leaves r a x (w .cells) (omega (arith, m .room, g .whole)) in
       record {
-        ready = record { rest = ap (λ (h : Chip). h .device) c; whole = ap length e ∙ (length-set (w .cells) a (bitAnd (at w a) x) ∙ g .whole) };
+        ready = record { rest = ap (λ (h : Chip). h .device) c ∙ ap rested (g .rest); whole = ap length e ∙ (length-set (w .cells) a (bitAnd (at w a) x) ∙ g .whole) };
         others = λ i n. ap (λ (l : List ℕ). getD l i 0) e ∙ getD-set-other (w .cells) a i (bitAnd (at w a) x) 0 n;
         starts = starts-operated j 0 a x (omega arith) (R .row) w (m .program) (g .whole) (rw (g .rest) fresh-idle) (m .heeds-program) c;
       }
@@ -288,7 +288,7 @@ module _ (j : Job) (image : List ℕ) (R : AcceptedJob j image) where
       let z : a % sectorSize (r .width) ≡ 0 = rw (R .size) at aligned in
       let s : a + sectorSize (r .width) ≤ length (w .cells) = omega (arith, R .size, g .whole) in
       record {
-        ready = record { rest = ap (λ (h : Chip). h .device) c; whole = ap length e ∙ (erase-length r a z (w .cells) s ∙ g .whole) };
+        ready = record { rest = ap (λ (h : Chip). h .device) c ∙ ap rested (g .rest); whole = ap length e ∙ (erase-length r a z (w .cells) s ∙ g .whole) };
         above = λ i h. ap (λ (l : List ℕ). getD l i 0) e ∙ beyond (completed r 1 a 0 (w .cells)) (w .cells) (a + sectorSize (r .width)) i (omega (arith, R .size)) (erase-drop r a z (w .cells) s);
         blank = λ i h. ap (λ (l : List ℕ). value (getD l (a + i) 0)) e ∙ (ap value (erase-at r a z (w .cells) s i (omega (arith, R .size))) ∙ value-blank (r .width));
         starts = starts-operated j 1 a 0 (omega arith) (R .row) w (m .erase) (g .whole) (rw (g .rest) fresh-idle) (m .heeds-erase) c;

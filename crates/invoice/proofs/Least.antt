@@ -24,15 +24,15 @@ use Rattle.parts.proofs.Ranges.{sector-some}
 use Rattle.chip.specs.declared.device.Device.{Device}
 use Rattle.chip.specs.declared.device.Operation.{Operation}
 use Rattle.chip.specs.declared.cycle.Cycle.{Cycle}
-use Rattle.chip.specs.Device.{busy, freshDevice, idle}
+use Rattle.chip.specs.Device.{freshDevice, idle}
 use Rattle.chip.specs.Operation.{cellsOf, finished, completeOn}
 use Rattle.chip.specs.Cycle.{Chip, chip}
-use Rattle.chip.specs.Trace.{play, startedIn, uncut, completeAll}
+use Rattle.chip.specs.Trace.{play, startedIn, uncut, completeAll, All}
 use Rattle.chip.specs.Recent.{later}
 use Rattle.chip.proofs.Leaves.{stored}
-use Rattle.chip.proofs.Idle.{idle-is, idle-rests}
+use Rattle.chip.proofs.Idle.{fresh-idle}
 use Rattle.chip.proofs.Trace.{trace}
-use Rattle.chip.proofs.Started.{Startable, All, started-all}
+use Rattle.chip.proofs.Started.{Startable, started-all}
 use Rattle.driver.specs.Writes.{lastWrite}
 use Rattle.job.specs.declared.loader.Job.{Job}
 use Rattle.values.specs.Fit.{fitAll}
@@ -250,9 +250,9 @@ module _ (j : Job) (image : List ℕ) (R : AcceptedJob j image) (cells : List �
   cells-left =
       let h = job-started j image R cells full (rw (R .size) (sector-some (r .width))) in
       let e = world-plays (j .part) (world cells noneSent) (sentOf j image cells) in
-      let rest : busy (play (j .part) (chip cells freshDevice) (cyclesIn (sentOf j image cells)) .device .core) ≡ false
-      = ap (λ (h : Chip). busy (h .device .core)) (sym e) ∙ ap (λ (d : Device). busy (d .core)) (h .ready .rest) in
-      ap (λ (h : Chip). h .cells) e ∙ (trace (j .part) (cyclesIn (sentOf j image cells)) (chip cells freshDevice) (held .whole) refl rest
+      let rest : idle (later (play (j .part) (chip cells freshDevice) (cyclesIn (sentOf j image cells)) .device)) ≡ true
+      = ap (λ (h : Chip). idle (later (h .device))) (sym e) ∙ (ap (λ (d : Device). idle (later d)) (h .ready .rest) ∙ fresh-idle) in
+      ap (λ (h : Chip). h .cells) e ∙ (trace (j .part) (cyclesIn (sentOf j image cells)) (chip cells freshDevice) (held .whole) fresh-idle rest
       ∙ ap (λ (os : List Operation). completeAll r os cells) (held .begun))
 
   room : (j .first / size + j .count / size) * size ≤ length cells
@@ -292,14 +292,11 @@ module _ (j : Job) (image : List ℕ) (R : AcceptedJob j image) (cells : List �
       let os = startedIn (j .part) (chip cells d) cs in
       let t = all-is r os (started-all (j .part) cs (chip cells d)) blocks chips cells full in
       let k = all-is r (operationsOf j image cells) startable (held-counts .blocks) (held-counts .chips) cells full in
-      let p = trace (j .part) cs (chip cells d) whole (at-rest d rests) (at-rest (later (play (j .part) (chip cells d) cs .device)) ends) in
+      let p = trace (j .part) cs (chip cells d) whole rests ends in
       let same = there (play (j .part) (chip cells d) cs .cells) (operateAll (r .width) size (map (opOf size) os) cells) (p ∙ t .0) holds in
       let best = job-best (r .width) size (timeOf r 0) (timeOf r 1) (j .first / size) (j .count / size) cells image (map (opOf size) os) room same in
       omega (arith, best, t .1, k .1, ap (costAll (timeOf r 0) (timeOf r 1)) listed)
     where
-      at-rest : (d : Device) → idle d ≡ true → busy (d .core) ≡ false
-      at-rest d i = idle-rests (d .core) (idle-is d i .1)
-
       there : (c k : List ℕ) → c ≡ k
           → ((i : ℕ) → i < length image → valueOf (r .width) (getD c (j .first + i) 0) ≡ getD image i 0) → Holds (r .width) size (j .first / size) (j .count / size) k image
       there c k e h = λ i l.

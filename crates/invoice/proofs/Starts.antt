@@ -12,7 +12,7 @@ use Rattle.parts.specs.Time.{pollsOf}
 use Rattle.chip.specs.declared.device.Operation.{Operation}
 use Rattle.chip.specs.declared.cycle.Action.the-variants.{Read}
 use Rattle.chip.specs.declared.cycle.Cycle.{Cycle}
-use Rattle.chip.specs.Device.{freshDevice, idle}
+use Rattle.chip.specs.Device.{rested, idle}
 use Rattle.chip.specs.Sequence.{ignored}
 use Rattle.chip.specs.Cycle.{cycle, Chip, chip}
 use Rattle.chip.specs.Trace.{after, play, startedIn, uncut}
@@ -120,7 +120,7 @@ module _ (part : ℕ) (w : World) where
 module _ (j : Job) (command a x : ℕ) (few : command ≤ 1) (row : j .row ≡ rowOf (j .part)) (w : World)
     (accepted : startRefusal (j .part) command a x (j .p) ≡ 0) (whole : length (w .cells) ≡ rowOf (j .part) .cells)
     (rests : idle (w .held .device) ≡ true) (heeded : ignored (rowOf (j .part)) (j .wp) command a ≡ false)
-    (left : chipOf (playOf (j .part) w (operated j command a x)) ≡ chip (completed (rowOf (j .part)) command a x (w .cells)) freshDevice) where
+    (left : chipOf (playOf (j .part) w (operated j command a x)) ≡ chip (completed (rowOf (j .part)) command a x (w .cells)) (rested (w .held .device))) where
   abbrev o : Operation
   o = operationOf (rowOf (j .part)) command a x
 
@@ -170,8 +170,8 @@ module _ (j : Job) (command a x : ℕ) (few : command ≤ 1) (row : j .row ≡ r
         left,
         places-are command few,
         row,
-        append-assoc (replicate (writeCount command) NoRead) (replicate n (ARead Polls) ++ (ARead Confirms ∷ [])) (placesIn (j .part) Scans (chip (completed r command a x (w .cells)) freshDevice) cs),
-        append-assoc (replicate n (ARead Polls)) (ARead Confirms ∷ []) (placesIn (j .part) Scans (chip (completed r command a x (w .cells)) freshDevice) cs),
+        append-assoc (replicate (writeCount command) NoRead) (replicate n (ARead Polls) ++ (ARead Confirms ∷ [])) (placesIn (j .part) Scans (chip (completed r command a x (w .cells)) (rested (w .held .device))) cs),
+        append-assoc (replicate n (ARead Polls)) (ARead Confirms ∷ []) (placesIn (j .part) Scans (chip (completed r command a x (w .cells)) (rested (w .held .device))) cs),
       )
       (rw plain at (operation-placed (j .part) command a x (j .p) (j .wp) (w .cells) (w .held .device) accepted whole rests heeded cs))
 
@@ -196,7 +196,7 @@ module _ (j : Job) (command a x : ℕ) (few : command ≤ 1) (row : j .row ≡ r
       ∙ ap (λ (h : Chip). play (j .part) h (replicate n (cycle (j .p) (j .wp) (Read a))))
       (world-plays (j .part) w (writesSent (j .wp) command ws) ∙ ap (play (j .part) (chipOf w)) (writes-cycles (j .wp) command ws)))
 
-  met-leads : after (j .part) (chipOf met) (confirm .cycle) ≡ chip (completed (rowOf (j .part)) command a x (w .cells)) freshDevice
+  met-leads : after (j .part) (chipOf met) (confirm .cycle) ≡ chip (completed (rowOf (j .part)) command a x (w .cells)) (rested (w .held .device))
   unfolding operated sendOf after
   met-leads =
       let ws = writesSent (j .wp) command (writesOf (rowOf (j .part)) command a x) in

@@ -10,7 +10,8 @@ use lib.ListN.{length}
 use Rattle.parts.specs.Table.{rowOf}
 use Rattle.parts.specs.Time.{pollsOf}
 use Rattle.chip.specs.declared.cycle.Action.the-variants.{Write}
-use Rattle.chip.specs.Device.{freshDevice}
+use Rattle.chip.specs.declared.device.Device.{Device}
+use Rattle.chip.specs.Device.{freshDevice, rested}
 use Rattle.chip.specs.Sequence.{ignored}
 use Rattle.chip.specs.Cycle.{cycle, Chip, chip}
 use Rattle.chip.proofs.Idle.{fresh-idle}
@@ -83,8 +84,10 @@ module _ (j : Job) (image : List ℕ) (right : j .row ≡ rowOf (j .part)) (task
     talk-is : talk stepOf (j .part) (j .wp) fuel first (chipOf w)
         ≡ told (operationCycles (rowOf (j .part)) (j .wp) command at x (j .p) n Done) (chip (completed (rowOf (j .part)) command at x (w .cells)) freshDevice) (ended (moved b Polling n) Done)
     talk-is =
-        rw (start-is (j .part) command at x (j .p) accepted) at
-        (succeeds (j .part) command at x (j .p) (j .wp) (w .cells) (w .held .device) accepted whole (rw rest fresh-idle) heeded same fuel 0 (le-refl fuel))
+        (rw (start-is (j .part) command at x (j .p) accepted) at
+        (succeeds (j .part) command at x (j .p) (j .wp) (w .cells) (w .held .device) accepted whole (rw rest fresh-idle) heeded same fuel 0 (le-refl fuel)))
+        ∙ ap (λ (d : Device). told (operationCycles (rowOf (j .part)) (j .wp) command at x (j .p) n Done) (chip (completed (rowOf (j .part)) command at x (w .cells)) d) (ended (moved b Polling n) Done))
+        (ap rested rest)
 
     -- the driver has said it at its end
     listed : operated j command at x ≡ spoken Sent (asSent j command) (j .part) (j .wp) fuel first (chipOf w)

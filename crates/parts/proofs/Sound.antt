@@ -1,18 +1,22 @@
 -- The rules of the part table: each is one test, computed over all rows, and the law that it gives of every known part.
 use mathlib.Core.Path.{_≡_, refl}
-use mathlib.Core.Bool.{Bool, true, false}
-use Prim.Native.Nat.{ℕ, _%_, _^_, _≤_, _<_}
+use mathlib.Core.Bool.{Bool, true, false, not}
+use mathlib.Core.List.{List, [], _∷_}
+use Prim.Native.Nat.{ℕ, zero, suc, _+_, _%_, _^_, _≤_, _<_}
+use native.Mathlib.Nat.{le-of-suc-le-suc}
 use native.Mathlib.Omega.{arith}
 use borrow.Author.Tests.{ltb-true, ltb-false, leb-true, eqb-true, eqb-false}
 use lib.Dec.{eqb, ltb, leb}
+use lib.ListN.{length, getD}
 use lib.Pow.{pow-mono}
 use Rattle.parts.specs.Pick.{pick}
 use Rattle.parts.specs.Width.{sectorSize}
 use Rattle.parts.specs.Table.{lines, noLine, rowFrom, rowOf, partRefusal}
 use Rattle.parts.specs.Span.{hasBlocks}
 use Rattle.parts.specs.Time.{times, timeOf}
+use Rattle.parts.specs.declared.table.Line.{Line}
 use Rattle.parts.specs.declared.table.Row.{Row}
-use Rattle.parts.proofs.Every.{unless, given, every, at}
+use Rattle.parts.proofs.Every.{apart, both, unless, given, every, at}
 
 -- the known parts are those of the table
 pub known : (n : ℕ) → partRefusal n ≡ 0 → n ≤ 10
@@ -27,6 +31,29 @@ known n e = ltb-false 10 n (not-one (ltb 10 n) e)
 rule : (f : Row → Bool) → every (λ l. f (rowFrom l)) lines ≡ true → (n : ℕ) → partRefusal n ≡ 0 → f (rowOf n) ≡ true
 unfolding rowOf
 rule f e n k = at (λ l. f (rowFrom l)) lines noLine e n (omega (arith, known n k))
+
+-- the same of a test that looks at the part's number, too: from part k on
+abbrev everyFrom : (ℕ → Row → Bool) → ℕ → List Line → Bool
+everyFrom f k [] = true
+everyFrom f k (l ∷ ls) = pick (f k (rowFrom l)) (everyFrom f (suc k) ls) false
+
+at-from : (f : ℕ → Row → Bool) (k : ℕ) (ls : List Line) → everyFrom f k ls ≡ true → (n : ℕ) → n < length ls → f (k + n) (rowFrom (getD ls n noLine)) ≡ true
+at-from f k [] e n h = absurd (omega arith)
+at-from f k (l ∷ ls) e zero h = let z : k + 0 ≡ k = omega arith in rw z (both (f k (rowFrom l)) (everyFrom f (suc k) ls) e .0)
+at-from f k (l ∷ ls) e (suc n) h =
+    let z : k + suc n ≡ suc k + n = omega arith in
+    rw z (at-from f (suc k) ls (both (f k (rowFrom l)) (everyFrom f (suc k) ls) e .1) n (le-of-suc-le-suc h))
+
+-- an erase can be suspended on parts 7 to 10, and on no other
+pub suspends-on : (n : ℕ) → partRefusal n ≡ 0 → rowOf n .suspends ≡ leb 7 n
+unfolding rowOf
+suspends-on n k = agree (rowFrom (getD lines n noLine) .suspends) (leb 7 n) (at-from (λ n r. pick (r .suspends) (leb 7 n) (not (leb 7 n))) 0 lines refl n (omega (arith, known n k)))
+  where
+    agree : (a b : Bool) → pick a b (not b) ≡ true → a ≡ b
+    agree true true e = refl
+    agree true false e = apart e
+    agree false true e = apart e
+    agree false false e = refl
 
 module _ (n : ℕ) (k : partRefusal n ≡ 0) where
   pub width-least : 8 ≤ rowOf n .width

@@ -1,4 +1,4 @@
--- The numbers of document 01 by name: commands, stages of a write sequence, kinds of a last cycle, bits 7 and 6, and the table of refusals.
+-- The numbers of document 01 by name: commands, stages of a write sequence, kinds of a last cycle, bits 7, 6 and 2, the codes of suspend and resume, and the table of refusals.
 -- Capitals as in the source, its `_` as `-`.
 use Prim.Native.Nat.{ℕ}
 
@@ -69,6 +69,19 @@ BIT-7 = 128
 -- bit 6
 abbrev pub BIT-6 : ℕ
 BIT-6 = 64
+
+-- bit 2
+abbrev pub BIT-2 : ℕ
+BIT-2 = 4
+
+-- ---- document 02, Wish 2: an erase is suspended and resumed by one write each
+-- suspend, B0H
+abbrev pub SUSPEND-CODE : ℕ
+SUSPEND-CODE = 0xb0
+
+-- resume, 30H
+abbrev pub RESUME-CODE : ℕ
+RESUME-CODE = 0x30
 
 -- ---- refusals
 -- part above 10

@@ -1,4 +1,4 @@
-// The numbers of document 01 by name: commands, stages of a write sequence, kinds of a last cycle, bits 7 and 6, and the table of refusals.
+// The numbers of document 01 by name: commands, stages of a write sequence, kinds of a last cycle, bits 7, 6 and 2, the codes of suspend and resume, and the table of refusals.
 
 // ---- commands
 // program
@@ -39,6 +39,14 @@ pub const A_WRITE: u32 = 2;
 pub const BIT_7: u16 = 128;
 // bit 6
 pub const BIT_6: u16 = 64;
+// bit 2
+pub const BIT_2: u16 = 4;
+
+// ---- document 02, Wish 2: an erase is suspended and resumed by one write each
+// suspend, B0H
+pub const SUSPEND_CODE: u16 = 0xb0;
+// resume, 30H
+pub const RESUME_CODE: u16 = 0x30;
 
 // ---- refusals
 // part above 10

@@ -9,11 +9,13 @@ pub enum End {
 
 // A part's line of the table: the columns Width, Cells, Block (0: none), Device ID, Program,
 // Sector/block and Chip (times in µs), and the facts beside them: U1, U2 and how many addresses
-// their compared low bits tell apart, the sector's and the block's code, and the protected end.
+// their compared low bits tell apart, the sector's and the block's code, the protected end, and
+// whether an erase can be suspended.
 pub struct Line {
     pub columns: [u32; 7],
     pub beside: [u32; 5],
     pub protected: End,
+    pub suspends: bool,
 }
 
 // A part, each number by its name.
@@ -31,6 +33,7 @@ pub struct Row {
     pub sector_code: u32,
     pub block_code: u32,
     pub protected: End,
+    pub suspends: bool,
 }
 
 // What the table answers: 0 or the refusal, and the row.

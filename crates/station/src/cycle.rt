@@ -1,14 +1,28 @@
 // The bus cycle: the device crosses as plain numbers, and any numbers may be given.
 use bus::DeviceNumbers;
+use bus::OperationNumbers;
 use bus::READ_MODE;
 use bus::ReplyNumbers;
 use chip::Action;
 use parts::names::NONE_BEGUN;
 ghost use mathlib.Core.Path.{_≡_};
-ghost use Rattle.chip.specs.Device.{freshDevice};
-ghost use Rattle.bus.specs.Cycle.{cycledOf, deviceNumbers};
+ghost use Rattle.chip.specs.Device.{freshDevice, noOperation};
+ghost use Rattle.bus.specs.Cycle.{cycledOf, deviceNumbers, operationNumbers};
 
-// A fresh device: read mode, no sequence begun, nothing running, no completion 0 µs old.
+// The numbers of no operation.
+fn no_operation() -> OperationNumbers
+    ensures { λ r. ⌜ r ≡ operationNumbers noOperation ⌝ }
+{
+    OperationNumbers {
+        kind: 0,
+        address: 0,
+        data: 0,
+        left: 0,
+        toggle: 0,
+    }
+}
+
+// A fresh device: read mode, no sequence begun, nothing running, nothing suspended, no completion 0 µs old.
 #[no_mangle]
 pub extern "C" fn station_fresh() -> DeviceNumbers
     ensures { λ r. ⌜ r ≡ deviceNumbers freshDevice ⌝ }
@@ -16,12 +30,10 @@ pub extern "C" fn station_fresh() -> DeviceNumbers
     DeviceNumbers {
         mode: READ_MODE,
         stage: NONE_BEGUN,
-        kind: 0,
-        address: 0,
-        data: 0,
-        left: 0,
-        toggle: 0,
         recent: 0,
+        turned: 0,
+        running: no_operation(),
+        suspended: no_operation(),
     }
 }
 

@@ -17,66 +17,77 @@ const LINES: [Line; 11] = [
         columns: [16, 8192, 4096, 0xfff0, 14, 18000, 70000],
         beside: [0x555, 0x2aa, 2048, 0x30, 0x50],
         protected: End::Lowest,
+        suspends: false,
     },
     // 1 SF010A
     Line {
         columns: [8, 131072, 0, 0xb5, 14, 18000, 70000],
         beside: [0x5555, 0x2aaa, 32768, 0x30, 0x50],
         protected: End::Neither,
+        suspends: false,
     },
     // 2 SF020A
     Line {
         columns: [8, 262144, 0, 0xb6, 14, 18000, 70000],
         beside: [0x5555, 0x2aaa, 32768, 0x30, 0x50],
         protected: End::Neither,
+        suspends: false,
     },
     // 3 SF040
     Line {
         columns: [8, 524288, 0, 0xb7, 14, 18000, 70000],
         beside: [0x5555, 0x2aaa, 32768, 0x30, 0x50],
         protected: End::Neither,
+        suspends: false,
     },
     // 4 VF200A
     Line {
         columns: [16, 131072, 32768, 0x2789, 14, 18000, 70000],
         beside: [0x5555, 0x2aaa, 32768, 0x30, 0x50],
         protected: End::Neither,
+        suspends: false,
     },
     // 5 VF400A
     Line {
         columns: [16, 262144, 32768, 0x2780, 14, 18000, 70000],
         beside: [0x5555, 0x2aaa, 32768, 0x30, 0x50],
         protected: End::Neither,
+        suspends: false,
     },
     // 6 VF800A
     Line {
         columns: [16, 524288, 32768, 0x2781, 14, 18000, 70000],
         beside: [0x5555, 0x2aaa, 32768, 0x30, 0x50],
         protected: End::Neither,
+        suspends: false,
     },
     // 7 WF1601
     Line {
         columns: [16, 1048576, 32768, 0x274b, 28, 36000, 140000],
         beside: [0x5555, 0x2aaa, 32768, 0x30, 0x50],
         protected: End::Lowest,
+        suspends: true,
     },
     // 8 WF1602
     Line {
         columns: [16, 1048576, 32768, 0x274a, 28, 36000, 140000],
         beside: [0x5555, 0x2aaa, 32768, 0x30, 0x50],
         protected: End::Highest,
+        suspends: true,
     },
     // 9 VF6401B
     Line {
         columns: [16, 4194304, 32768, 0x236d, 7, 18000, 40000],
         beside: [0x555, 0x2aa, 2048, 0x50, 0x30],
         protected: End::Lowest,
+        suspends: true,
     },
     // 10 VF6402B
     Line {
         columns: [16, 4194304, 32768, 0x236c, 7, 18000, 40000],
         beside: [0x555, 0x2aa, 2048, 0x50, 0x30],
         protected: End::Highest,
+        suspends: true,
     },
 ];
 
@@ -122,6 +133,7 @@ fn named(line: Line) -> Row
         sector_code: b[3],
         block_code: b[4],
         protected,
+        suspends: line.suspends,
     }
 }
 
@@ -134,6 +146,7 @@ pub fn part_row(part: u32) -> Found
             columns: [0; 7],
             beside: [0; 5],
             protected: End::Neither,
+            suspends: false,
         };
         return Found {
             answer: NO_PART,

@@ -7,12 +7,11 @@ use Rattle.chip.proofs.cycle.look.Tie as tie
 
 returns : tie.Need-returns
 unfolding readOf
-returns c = let at = c .before .before in
-    simp (sym (at .before .before .before .is-busy .ensures) ∙ at .before .before .if1 .taken, at .busy-status .ensures, c .with-running .ensures, c .before .toggled .ensures)
+returns c = simp (sym (c .before .before .is-busy .ensures) ∙ c .before .if1 .taken) (c .look-busy .ensures)
 
 returns-2 : tie.Need-returns-2
 unfolding readOf
-returns-2 c = simp (sym (c .before .before .is-busy .ensures) ∙ c .before .if1 .left, c .outputs .ensures)
+returns-2 c = simp (sym (c .before .before .before .before .before .is-busy .ensures) ∙ c .before .before .before .before .if1 .left, c .before .outputs .ensures, c .turned-by .ensures, c .before .before .rest-value .ensures, c .before .before .before .is-veiled .ensures)
 
 pub look-spec : {M : Type 1} → statement M
-look-spec = tie.close (tie.spec (λ c κs. search needs) (λ c κs. search needs) (λ c κs. search needs) (λ c κs. search needs) returns (λ c κs. search needs) returns-2)
+look-spec = tie.close (tie.spec (λ c κs. search needs) (λ c κs. search needs) returns (λ c κs. search needs) (λ c κs. search needs) (λ c κs. search needs) (λ c κs. search needs) returns-2)

@@ -4,7 +4,7 @@ use Rattle.chip.proofs.device.Core.at_rest.Statement.{statement}
 use Rattle.chip.proofs.device.Core.at_rest.Tie as tie
 
 returns : tie.Need-returns
-returns c = rw (c .before .with-running .ensures, c .before .before .no-operation .ensures) at (c .with-recent .ensures)
+returns c = simp (c .no-operation .ensures)
 
 pub at-rest-spec : {M : Type 1} → statement M
-at-rest-spec = tie.close (tie.spec (λ c κs. search needs) (λ c κs. search needs) (λ c κs. search needs) returns)
+at-rest-spec = tie.close (tie.spec (λ c κs. search needs) returns)
