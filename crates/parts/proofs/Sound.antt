@@ -47,7 +47,10 @@ at-from f k (l ∷ ls) e (suc n) h =
 -- an erase can be suspended on parts 7 to 10, and on no other
 pub suspends-on : (n : ℕ) → partRefusal n ≡ 0 → rowOf n .suspends ≡ leb 7 n
 unfolding rowOf
-suspends-on n k = agree (rowFrom (getD lines n noLine) .suspends) (leb 7 n) (at-from (λ n r. pick (r .suspends) (leb 7 n) (not (leb 7 n))) 0 lines refl n (omega (arith, known n k)))
+suspends-on n k =
+    let z : 0 + n ≡ n = omega arith in
+    agree (rowFrom (getD lines n noLine) .suspends) (leb 7 n)
+    (rw z at (at-from (λ n r. pick (r .suspends) (leb 7 n) (not (leb 7 n))) 0 lines refl n (omega (arith, known n k))))
   where
     agree : (a b : Bool) → pick a b (not b) ≡ true → a ≡ b
     agree true true e = refl
