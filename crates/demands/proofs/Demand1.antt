@@ -31,6 +31,7 @@ use Rattle.driver.specs.Machine.{valueWanted, noDriver, startOf, startWriting, 
 use Rattle.driver.proofs.Begins.{start-range}
 use Rattle.driver.proofs.Theorems.{refused-steps}
 use Rattle.bus.specs.Cycle.{deviceOf, noState, Cycled, cycledNumbers}
+use Rattle.bus.specs.declared.cycle.DeviceNumbers.{DeviceNumbers}
 use Rattle.bus.proofs.Back.{bad-mode, bad-recent, bad-turned, bad-toggle, bad-suspended-toggle, no-device, refused-numbers, taken-numbers}
 use Rattle.job.specs.declared.bill.Bill.{Bill}
 use Rattle.job.specs.Bill.{Loaded, Reported, refusedBill, loadOf, reportOf}

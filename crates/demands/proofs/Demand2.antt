@@ -1,6 +1,6 @@
 -- Demand 2 is met. What is proved stands in specs/Demand2.antt.
 use Prim.Native.Nat.{ℕ, _+_, _-_, _*_, _/_, _^_, _≤_, _<_}
-use mathlib.Core.Path.{_≡_, refl, sym, ap, ap₂, _∙_}
+use mathlib.Core.Path.{_≡_, refl, sym, subst, ap, ap₂, _∙_}
 use mathlib.Core.Bool.{Bool, true, false}
 use mathlib.Core.List.{List, [], _∷_, _++_}
 use native.Mathlib.Nat.{div-add-mod', mul-left-comm}
@@ -78,7 +78,8 @@ exactly : (c : BusCall) → let g = onBus c in refusedCycle g ≡ 0
 unfolding after
 exactly c z =
     let g = onBus c in
-    rw (bus-left c g refl) (recent-exactly (g .part) (chip (g .cells) (g .device)) (g .cycle) (accepted (g .part) (length (g .cells)) (g .device) (g .cycle .action) z))
+    subst (λ (o : Outcome). o .reply .device .core .recent ≡ pick (uncutAction (g .cycle .action)) (pick (busy (o .reply .device .core)) false (recentOnce (g .device .core) (g .cycle .elapsed))) false)
+    (sym (bus-left c g refl)) (recent-exactly (g .part) (chip (g .cells) (g .device)) (g .cycle) (accepted (g .part) (length (g .cells)) (g .device) (g .cycle .action) z))
 
 comes-later : (c e : BusCall) → let g = onBus c in refusedCycle g ≡ 0
     → (a : ℕ) (u v : Bool) (t : ℕ) → g .device .core .recent ≡ true → g .cycle ≡ cycle 0 u (Read a)

@@ -15,11 +15,11 @@ use Rattle.parts.specs.Time.{hasCommand, timeOf, isInterval, roundedUp}
 use Rattle.parts.proofs.Every.{every, both}
 use Rattle.chip.specs.declared.device.Device.{Device}
 use Rattle.chip.specs.declared.cycle.Cycle.{Cycle}
-use Rattle.chip.specs.Device.{freshDevice, validOperation, coreInRange, stageInRange, deviceInRange}
+use Rattle.chip.specs.Device.{freshDevice, suspendable, barred, validOperation, runsInRange, heldInRange, coreInRange, stageInRange, deviceInRange}
 use Rattle.chip.specs.Operation.{cellsOf, completeOn, cutOn}
 use Rattle.commands.specs.Commands.{effectOf}
-use Rattle.chip.specs.Sequence.{ignored, writtenOf}
-use Rattle.chip.specs.Cycle.{Chip, chip, Outcome, reply, actionRefusal, cycleRefusal, settledOf, readOf, cutOf, acceptedOf, cycleOf}
+use Rattle.chip.specs.Sequence.{ignored, passedOver, writtenOf}
+use Rattle.chip.specs.Cycle.{Chip, chip, Outcome, reply, actionRefusal, cycleRefusal, settledOf, tells, veils, readOf, cutOf, acceptedOf, cycleOf}
 use Rattle.chip.specs.Trace.{leaves, after}
 use Rattle.driver.specs.Writes.{lastWrite}
 use Rattle.values.specs.Total.{totalOf}
@@ -32,7 +32,7 @@ use Rattle.invoice.proofs.Loads.{deciding, decidingAll, reckoned, loads}
 use Rattle.billing.specs.File.{blankBench}
 use Rattle.demands.specs.Marked.{Cell, Case, Marked, Bus, Load, Ran, cases, holding, imageOf, loadSixth, afterJobs, sameBill, further, ran, asSaid, before, holdsCase, holdsMarked}
 use Rattle.table.specs.Figures.{figureOf}
-use Rattle.demands.specs.Beside.{sheets, shownAll, figures, partsAre, protectedEnds, comparedBits, sentences, edges}
+use Rattle.demands.specs.Beside.{sheets, shownAll, figures, partsAre, protectedEnds, comparedBits, sentences, edges, holds}
 use Rattle.chip.proofs.Ranges.{after-length}
 
 -- a cycle on cells that are known to be n
@@ -124,8 +124,8 @@ on-every [] c = refl
 on-every (k ∷ ks) c = let b = both (computes k) (every computes ks) c in rw (on-marked k (b .0)) (on-every ks (b .1))
 
 computed : every computes cases ≡ true
-unfolding computes holdsOn ranOn cycleOn reckon reckonAll accepts acceptsAll rowOf partRefusal fitsIn sectorSize holdsb hasBlocks sectorOf blockOf protectedOf hasCommand timeOf validOperation
-    coreInRange stageInRange deviceInRange cellsOf completeOn cutOn effectOf ignored writtenOf actionRefusal cycleRefusal settledOf readOf cutOf acceptedOf lastWrite
+unfolding computes holdsOn ranOn cycleOn reckon reckonAll accepts acceptsAll rowOf partRefusal fitsIn sectorSize holdsb hasBlocks sectorOf blockOf protectedOf hasCommand timeOf validOperation suspendable barred runsInRange heldInRange
+    coreInRange stageInRange deviceInRange cellsOf completeOn cutOn effectOf ignored passedOver writtenOf actionRefusal cycleRefusal settledOf tells veils readOf cutOf acceptedOf lastWrite
     isInterval roundedUp fitAll meets protectionRefusal sectorsRefusal rangeRefusal jobRefusal totalOf confirmAfter fullOf filling looking deciding decidingAll
 computed = refl
 
@@ -139,24 +139,29 @@ on-cases [] c = refl
 on-cases (k ∷ ks) c = let b = both (holdsOn k) (every holdsOn ks) c in rw (on-case k ∙ b .0) (on-cases ks (b .1))
 
 computed-sheets : every holdsOn (shownAll sheets) ≡ true
-unfolding holdsOn ranOn cycleOn rowOf partRefusal fitsIn sectorSize holdsb hasBlocks sectorOf blockOf protectedOf hasCommand timeOf validOperation coreInRange
-    stageInRange deviceInRange cellsOf completeOn cutOn effectOf ignored writtenOf actionRefusal cycleRefusal settledOf readOf cutOf acceptedOf
+unfolding holdsOn ranOn cycleOn rowOf partRefusal fitsIn sectorSize holdsb hasBlocks sectorOf blockOf protectedOf hasCommand timeOf validOperation suspendable barred runsInRange heldInRange coreInRange
+    stageInRange deviceInRange cellsOf completeOn cutOn effectOf ignored passedOver writtenOf actionRefusal cycleRefusal settledOf tells veils readOf cutOf acceptedOf
 computed-sheets = refl
 
 computed-ends : every holdsOn (protectedEnds ++ comparedBits) ≡ true
-unfolding holdsOn ranOn cycleOn rowOf partRefusal fitsIn sectorSize holdsb hasBlocks sectorOf blockOf protectedOf hasCommand timeOf validOperation coreInRange
-    stageInRange deviceInRange cellsOf completeOn cutOn effectOf ignored writtenOf actionRefusal cycleRefusal settledOf readOf cutOf acceptedOf
+unfolding holdsOn ranOn cycleOn rowOf partRefusal fitsIn sectorSize holdsb hasBlocks sectorOf blockOf protectedOf hasCommand timeOf validOperation suspendable barred runsInRange heldInRange coreInRange
+    stageInRange deviceInRange cellsOf completeOn cutOn effectOf ignored passedOver writtenOf actionRefusal cycleRefusal settledOf tells veils readOf cutOf acceptedOf
 computed-ends = refl
 
 computed-sentences : every holdsOn sentences ≡ true
-unfolding holdsOn ranOn cycleOn rowOf partRefusal fitsIn sectorSize holdsb hasBlocks sectorOf blockOf protectedOf hasCommand timeOf validOperation coreInRange
-    stageInRange deviceInRange cellsOf completeOn cutOn effectOf ignored writtenOf actionRefusal cycleRefusal settledOf readOf cutOf acceptedOf
+unfolding holdsOn ranOn cycleOn rowOf partRefusal fitsIn sectorSize holdsb hasBlocks sectorOf blockOf protectedOf hasCommand timeOf validOperation suspendable barred runsInRange heldInRange coreInRange
+    stageInRange deviceInRange cellsOf completeOn cutOn effectOf ignored passedOver writtenOf actionRefusal cycleRefusal settledOf tells veils readOf cutOf acceptedOf
 computed-sentences = refl
 
 computed-edges : every holdsOn edges ≡ true
-unfolding holdsOn ranOn cycleOn rowOf partRefusal fitsIn sectorSize holdsb hasBlocks sectorOf blockOf protectedOf hasCommand timeOf validOperation coreInRange
-    stageInRange deviceInRange cellsOf completeOn cutOn effectOf ignored writtenOf actionRefusal cycleRefusal settledOf readOf cutOf acceptedOf
+unfolding holdsOn ranOn cycleOn rowOf partRefusal fitsIn sectorSize holdsb hasBlocks sectorOf blockOf protectedOf hasCommand timeOf validOperation suspendable barred runsInRange heldInRange coreInRange
+    stageInRange deviceInRange cellsOf completeOn cutOn effectOf ignored passedOver writtenOf actionRefusal cycleRefusal settledOf tells veils readOf cutOf acceptedOf
 computed-edges = refl
+
+computed-holds : every holdsOn holds ≡ true
+unfolding holdsOn ranOn cycleOn rowOf partRefusal fitsIn sectorSize holdsb hasBlocks sectorOf blockOf protectedOf hasCommand timeOf validOperation suspendable barred runsInRange heldInRange coreInRange
+    stageInRange deviceInRange cellsOf completeOn cutOn effectOf ignored passedOver writtenOf actionRefusal cycleRefusal settledOf tells veils readOf cutOf acceptedOf
+computed-holds = refl
 
 -- The part table, entry by entry, as the chip shows it; both ends of the protected blocks and the compared bits; and sentences that no marked case touches.
 pub sheets-shown : every holdsCase (shownAll sheets) ≡ true
@@ -171,6 +176,10 @@ sentences-shown = on-cases sentences computed-sentences
 -- Document 02, Wish 1: the word at its edge.
 pub edges-shown : every holdsCase edges ≡ true
 edges-shown = on-cases edges computed-edges
+
+-- Document 02, Wish 2: an erase that is held.
+pub holds-shown : every holdsCase holds ≡ true
+holds-shown = on-cases holds computed-holds
 
 -- The figures of every part are document 01's.
 pub figures-shown : partsAre 0 figures ≡ true

@@ -4,10 +4,11 @@ use mathlib.Core.Bool.{true}
 use mathlib.Core.List.{[], _∷_, _++_}
 use Rattle.parts.specs.Width.{fitsIn, sectorSize}
 use Rattle.parts.specs.Table.{rowOf, partRefusal}
-use Rattle.parts.specs.Span.{holdsb, hasBlocks, blockOf, protectedOf}
+use Rattle.parts.specs.Span.{holdsb, hasBlocks, sectorOf, blockOf, protectedOf}
 use Rattle.parts.specs.Time.{hasCommand, timeOf, isInterval, roundedUp}
 use Rattle.parts.proofs.Every.{every}
-use Rattle.chip.specs.Device.{validOperation, coreInRange, stageInRange, deviceInRange}
+use Rattle.chip.specs.Device.{suspendable, barred, validOperation, runsInRange, heldInRange, coreInRange, stageInRange, deviceInRange}
+use Rattle.chip.specs.Operation.{cellsOf}
 use Rattle.chip.specs.Cycle.{actionRefusal, cycleRefusal, settledOf, cutOf, acceptedOf, cycleOf}
 use Rattle.driver.specs.Refusals.{dataRefusal, targetRefusal, startRefusal}
 use Rattle.driver.specs.Writes.{writeCount}
@@ -17,7 +18,7 @@ use Rattle.request.specs.Refusal.{meets, protectionRefusal, sectorsRefusal, ran
 use Rattle.job.specs.Loader.{nextSector, lookOf, beginOf, burnOf, drivenOf, scannedOf, inJob, turnOf}
 use Rattle.job.specs.Loading.{beginLoad, isEnding, sameAsked, loaderInRange, loadingInRange, stopsWith, loadTurnOf}
 use Rattle.numbers.specs.Machine.{phaseAt, steppedOf}
-use Rattle.bus.specs.Cycle.{deviceOf, replyNumbers}
+use Rattle.bus.specs.Cycle.{hasBits, deviceOf, replyNumbers}
 use Rattle.numbers.specs.Loading.{taskAt, stageAt, progressAt, turnNumbers, turnedOf}
 use Rattle.demands.specs.States.{givesSo, steps, cycles, begins, waitingTurns, readingTurns, drivingTurns, wideTurn}
 
@@ -27,8 +28,8 @@ unfolding rowOf partRefusal fitsIn hasBlocks hasCommand timeOf isInterval rounde
 steps-answer = refl
 
 pub cycles-answer : every givesSo cycles ≡ true
-unfolding rowOf partRefusal fitsIn hasBlocks hasCommand timeOf validOperation coreInRange stageInRange deviceInRange actionRefusal cycleRefusal settledOf cutOf acceptedOf
-    cycleOf deviceOf replyNumbers
+unfolding rowOf partRefusal fitsIn hasBlocks hasCommand timeOf sectorSize holdsb sectorOf cellsOf validOperation suspendable barred runsInRange heldInRange coreInRange stageInRange deviceInRange actionRefusal cycleRefusal settledOf cutOf acceptedOf
+    cycleOf hasBits deviceOf replyNumbers
 cycles-answer = refl
 
 pub begins-answer : every givesSo begins ≡ true

@@ -6,7 +6,7 @@ use mathlib.Core.List.{List, [], _∷_, _++_}
 use lib.Dec.{eqb}
 use Rattle.parts.specs.Pick.{pick}
 use Rattle.table.specs.Figures.{figureOf}
-use Rattle.chip.specs.declared.cycle.Action.the-variants.{Cut}
+use Rattle.chip.specs.declared.cycle.Action.the-variants.{Write, Cut}
 use Rattle.chip.specs.declared.cycle.Cycle.{Cycle}
 use Rattle.chip.specs.Cycle.{cycle}
 use Rattle.demands.specs.Marked.{Cell, cell, Case, write, writeLow, read, idleFor, cut, arm, armLow, unlock}
@@ -24,25 +24,27 @@ pub record Sheet : Type 0 where
   pub code : ℕ
   pub sector : ℕ
   pub blank : ℕ
+  -- what the first read of its range shows of an erase that runs
+  pub firstRead : ℕ
 
-abbrev pub sheet : ℕ → ℕ → ℕ → ℕ → ℕ → ℕ → ℕ → ℕ → ℕ → ℕ → Sheet
-sheet n u v d p e c k s b =
-    record { part = n; u1 = u; u2 = v; device = d; program = p; erase = e; chip = c; code = k; sector = s; blank = b }
+abbrev pub sheet : ℕ → ℕ → ℕ → ℕ → ℕ → ℕ → ℕ → ℕ → ℕ → ℕ → ℕ → Sheet
+sheet n u v d p e c k s b f =
+    record { part = n; u1 = u; u2 = v; device = d; program = p; erase = e; chip = c; code = k; sector = s; blank = b; firstRead = f }
 
--- No, U1, U2, Device ID, Program, Sector/block, Chip, sector code, sector, blank
+-- No, U1, U2, Device ID, Program, Sector/block, Chip, sector code, sector, blank, an erase's first read
 abbrev pub sheets : List Sheet
 sheets =
-    sheet 0 0x555 0x2aa 0xfff0 14 18000 70000 0x30 2048 0xffff
-    ∷ sheet 1 0x5555 0x2aaa 0xb5 14 18000 70000 0x30 4096 0xff
-    ∷ sheet 2 0x5555 0x2aaa 0xb6 14 18000 70000 0x30 4096 0xff
-    ∷ sheet 3 0x5555 0x2aaa 0xb7 14 18000 70000 0x30 4096 0xff
-    ∷ sheet 4 0x5555 0x2aaa 0x2789 14 18000 70000 0x30 2048 0xffff
-    ∷ sheet 5 0x5555 0x2aaa 0x2780 14 18000 70000 0x30 2048 0xffff
-    ∷ sheet 6 0x5555 0x2aaa 0x2781 14 18000 70000 0x30 2048 0xffff
-    ∷ sheet 7 0x5555 0x2aaa 0x274b 28 36000 140000 0x30 2048 0xffff
-    ∷ sheet 8 0x5555 0x2aaa 0x274a 28 36000 140000 0x30 2048 0xffff
-    ∷ sheet 9 0x555 0x2aa 0x236d 7 18000 40000 0x50 2048 0xffff
-    ∷ sheet 10 0x555 0x2aa 0x236c 7 18000 40000 0x50 2048 0xffff
+    sheet 0 0x555 0x2aa 0xfff0 14 18000 70000 0x30 2048 0xffff 0x40
+    ∷ sheet 1 0x5555 0x2aaa 0xb5 14 18000 70000 0x30 4096 0xff 0x40
+    ∷ sheet 2 0x5555 0x2aaa 0xb6 14 18000 70000 0x30 4096 0xff 0x40
+    ∷ sheet 3 0x5555 0x2aaa 0xb7 14 18000 70000 0x30 4096 0xff 0x40
+    ∷ sheet 4 0x5555 0x2aaa 0x2789 14 18000 70000 0x30 2048 0xffff 0x40
+    ∷ sheet 5 0x5555 0x2aaa 0x2780 14 18000 70000 0x30 2048 0xffff 0x40
+    ∷ sheet 6 0x5555 0x2aaa 0x2781 14 18000 70000 0x30 2048 0xffff 0x40
+    ∷ sheet 7 0x5555 0x2aaa 0x274b 28 36000 140000 0x30 2048 0xffff 0x44
+    ∷ sheet 8 0x5555 0x2aaa 0x274a 28 36000 140000 0x30 2048 0xffff 0x44
+    ∷ sheet 9 0x555 0x2aa 0x236d 7 18000 40000 0x50 2048 0xffff 0x44
+    ∷ sheet 10 0x555 0x2aa 0x236c 7 18000 40000 0x50 2048 0xffff 0x44
     ∷ []
 
 -- a case on a part whose cells all hold 0, or all of them blank
@@ -80,7 +82,7 @@ shown s =
     (blankAtOnce ∷ atOnce s 0 ∷ s .blank ∷ 0 ∷ [])
     []
     false
-    ∷ on (s .part) 0 (unlock (s .u1) (s .u2) ++ (write (s .u1) 0x10 ∷ idleFor (s .chip - 1) ∷ read 0 0 ∷ [])) (0x0040 ∷ []) [] true
+    ∷ on (s .part) 0 (unlock (s .u1) (s .u2) ++ (write (s .u1) 0x10 ∷ idleFor (s .chip - 1) ∷ read 0 0 ∷ [])) (s .firstRead ∷ []) [] true
     ∷ on (s .part) 0 (unlock (s .u1) (s .u2) ++ (write (s .u1) 0x10 ∷ idleFor (s .chip) ∷ [])) [] [] false
     ∷ []
 
@@ -198,4 +200,72 @@ edges =
     -- a cut finds the operation complete, and ends it
     ∷ on 5 0xffff (writing1234 (cycle 14 true (Cut 0x00ff) ∷ read 0 7 ∷ [])) (0x1234 ∷ []) (cell 7 0x1234 ∷ []) false
     ∷ on 5 0xffff (writing1234 (idleFor 14 ∷ cut 0x00ff ∷ read 0 7 ∷ [])) (0x1234 ∷ []) (cell 7 0x1234 ∷ []) false
+    ∷ []
+
+-- ---- document 02, Wish 2: an erase is held
+-- on part 7, all of whose cells hold 1234H: a sector erase at 2,053, its range 2,048 to 4,095, which takes 36,000 µs, and what follows
+abbrev pub erasing : List Cycle → List Cycle
+erasing cs = unlock 0x5555 0x2aaa ++ (write 2053 0x30 ∷ cs)
+
+-- the same, suspended at address 0 after 100 µs
+abbrev pub suspended : List Cycle → List Cycle
+suspended cs = erasing (idleFor 100 ∷ write 0 0xb0 ∷ cs)
+
+-- a program that follows, and what follows it
+abbrev pub programs : ℕ → ℕ → List Cycle → List Cycle
+programs a x cs = arm 0x5555 0x2aaa ++ (write a x ∷ cs)
+
+abbrev pub onSeven : List Cycle → List ℕ → List Cell → Bool → Case
+onSeven cycles reads cells pending = on 7 0x1234 cycles reads cells pending
+
+abbrev pub holds : List Case
+holds =
+    -- while it runs bit 6 alternates at each read, bit 2 at those of the range; it is 0 elsewhere
+    onSeven (erasing (read 0 2048 ∷ read 0 2047 ∷ read 0 4095 ∷ read 0 4096 ∷ read 0 2048 ∷ [])) (0x44 ∷ 0x00 ∷ 0x40 ∷ 0x00 ∷ 0x44 ∷ []) [] true
+    -- suspended, read inside and outside, a program outside, which takes 28 µs and is read as it ends, and inside then; resumed, and done
+    ∷ onSeven
+    (suspended
+    (read 0 2048 ∷ read 5 4095 ∷ read 0 2047 ∷ read 0 4096 ∷ read 0 2048
+    ∷ programs 4096 0x0f0f
+    (read 0 2048 ∷ read 28 4096 ∷ read 0 2048 ∷ read 1 2048
+    ∷ write 9 0x30 ∷ read 0 2048 ∷ idleFor 35899 ∷ read 0 2048 ∷ read 1 2048 ∷ read 1 2048 ∷ read 0 4096 ∷ [])))
+    (0xc4 ∷ 0xc0 ∷ 0x1234 ∷ 0x1234 ∷ 0xc4 ∷ 0xc0 ∷ 0xfd7b ∷ 0xffbb ∷ 0xc0 ∷ 0x44 ∷ 0x00 ∷ 0x0080 ∷ 0xffff ∷ 0x0204 ∷ [])
+    (cell 2047 0x1234 ∷ cell 2048 0xffff ∷ cell 4095 0xffff ∷ cell 4096 0x0204 ∷ cell 4097 0x1234 ∷ [])
+    false
+    -- a cut while suspended with a program running, a µs before its end, and at it
+    ∷ onSeven (suspended (programs 4096 0x0f0f (cycle 27 true (Cut 0x00ff) ∷ read 0 2048 ∷ [])))
+    (0x12ff ∷ [])
+    (cell 2047 0x1234 ∷ cell 2048 0x12ff ∷ cell 4095 0x12ff ∷ cell 4096 0x0234 ∷ cell 4097 0x1234 ∷ [])
+    false
+    ∷ onSeven (suspended (programs 4096 0x0f0f (cycle 28 true (Cut 0x00ff) ∷ []))) [] (cell 2048 0x12ff ∷ cell 4095 0x12ff ∷ cell 4096 0x0204 ∷ []) false
+    -- a cut while suspended with nothing running
+    ∷ onSeven (suspended (cut 0x00ff ∷ read 0 4095 ∷ [])) (0x12ff ∷ []) (cell 2047 0x1234 ∷ cell 4096 0x1234 ∷ []) false
+    -- a program into the range is ignored, at both its ends; beside them it starts
+    ∷ onSeven (suspended (programs 2048 0 (read 0 4096 ∷ read 0 2048 ∷ programs 4095 0 (read 0 4095 ∷ [])))) (0x1234 ∷ 0xc4 ∷ 0xc0 ∷ []) [] false
+    ∷ onSeven (suspended (programs 2047 0 (read 0 2048 ∷ read 29 2047 ∷ []))) (0xc0 ∷ 0 ∷ []) [] false
+    -- any erase is ignored: of a sector, a block, the chip
+    ∷ onSeven (suspended (unlock 0x5555 0x2aaa ++ (write 8192 0x30 ∷ read 0 8192 ∷ read 0 2048 ∷ []))) (0x1234 ∷ 0xc4 ∷ []) [] false
+    ∷ onSeven (suspended (unlock 0x5555 0x2aaa ++ (write 65536 0x50 ∷ read 0 65536 ∷ read 0 2048 ∷ []))) (0x1234 ∷ 0xc4 ∷ []) [] false
+    ∷ onSeven (suspended (unlock 0x5555 0x2aaa ++ (write 0x5555 0x10 ∷ read 0 0 ∷ read 0 2048 ∷ []))) (0x1234 ∷ 0xc4 ∷ []) [] false
+    -- 30H with a sequence begun breaks it, or is a program's data
+    ∷ onSeven (suspended (write 0x5555 0xaa ∷ write 0 0x30 ∷ read 0 2048 ∷ write 0 0x30 ∷ read 0 2048 ∷ [])) (0xc4 ∷ 0x44 ∷ []) [] true
+    ∷ onSeven (suspended (programs 4096 0x30 (read 29 4096 ∷ read 0 2048 ∷ []))) (0x30 ∷ 0xc4 ∷ []) [] false
+    -- B0H at rest, F0H and a stray write return to read mode, and it stays suspended; reads within a sequence are veiled, too
+    ∷ onSeven (suspended (write 0 0xb0 ∷ read 0 2048 ∷ write 0 0xf0 ∷ read 0 2048 ∷ write 0 0 ∷ write 0x5555 0xaa ∷ read 0 2048 ∷ [])) (0xc4 ∷ 0xc0 ∷ 0xc4 ∷ []) [] false
+    -- in identification mode the codes, in the range too, and no such read counts; resume ends that mode
+    ∷ onSeven (suspended (identify 0x5555 0x2aaa ++ (read 0 0 ∷ read 0 2048 ∷ write 0 0xf0 ∷ read 0 2048 ∷ []))) (0xbf ∷ 0 ∷ 0xc4 ∷ []) [] false
+    ∷ onSeven (suspended (identify 0x5555 0x2aaa ++ (write 9 0x30 ∷ read 0 0 ∷ []))) (0x40 ∷ []) [] true
+    -- WP# is not looked at, and the low eight data bits count; a block erase on part 9
+    ∷ on 9 0x1234
+    (unlock 0x555 0x2aa
+    ++ (write 40000 0x30 ∷ idleFor 1 ∷ writeLow 7 0x12b0 ∷ read 0 32768 ∷ read 0 65535 ∷ read 0 32767 ∷ read 0 65536 ∷ writeLow 7 0x5530 ∷ idleFor 17998 ∷ read 0 32768 ∷ read 2 65535 ∷ []))
+    (0xc4 ∷ 0xc0 ∷ 0x1234 ∷ 0x1234 ∷ 0x44 ∷ 0xffff ∷ [])
+    (cell 32767 0x1234 ∷ cell 32768 0xffff ∷ cell 65535 0xffff ∷ cell 65536 0x1234 ∷ [])
+    false
+    -- with the time that is left B0H finds the erase complete; it suspends no chip erase and no program, and 30H resumes nothing that is not suspended
+    ∷ onSeven (erasing (cycle 36000 true (Write 0 0xb0) ∷ read 1 2048 ∷ [])) (0xffff ∷ []) (cell 2048 0xffff ∷ []) false
+    ∷ onSeven (unlock 0x5555 0x2aaa ++ (write 0x5555 0x10 ∷ write 0 0xb0 ∷ read 0 7 ∷ [])) (0x44 ∷ []) [] true
+    ∷ onSeven (programs 7 0 (write 0 0xb0 ∷ read 0 7 ∷ write 0 0x30 ∷ read 28 8 ∷ write 0 0x30 ∷ read 1 8 ∷ [])) (0xc0 ∷ 0xed4b ∷ 0x1234 ∷ []) [] false
+    -- on part 6 B0H and 30H are what they were
+    ∷ on 6 0x1234 (unlock 0x5555 0x2aaa ++ (write 2053 0x30 ∷ write 0 0xb0 ∷ read 0 2053 ∷ read 0 2053 ∷ write 0 0x30 ∷ read 0 2053 ∷ [])) (0x40 ∷ 0x00 ∷ 0x40 ∷ []) [] true
     ∷ []

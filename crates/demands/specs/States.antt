@@ -108,10 +108,6 @@ standsBeside mode stage o recent turned s = record { mode = mode; stage = stage;
 abbrev pub stands : ℕ → ℕ → ℕ → ℕ → ℕ → ℕ → ℕ → ℕ → DeviceNumbers
 stands mode stage kind a x left toggle recent = standsBeside mode stage (operates kind a x left toggle) recent 0 (operates 0 0 0 0 0)
 
--- with an erase suspended, on part 7: what runs; turned; what is suspended
-abbrev pub stands7 : OperationNumbers → ℕ → OperationNumbers → Given
-stands7 o turned s = Bus 7 1048576 (standsBeside 0 0 o 0 turned s) 1 Idle
-
 abbrev pub cycles : List Expected
 cycles =
     gives 0 (Bus 0 8192 (stands 0 0 0 0 0 0 0 0) 1 Idle)
@@ -144,16 +140,9 @@ cycles =
     ∷ gives 3 (Bus 0 8192 (standsBeside 0 0 (operates 0 0 0 0 0) 0 1 (operates 0 0 0 0 0)) 1 (Read 8192))
     ∷ gives 5 (Bus 0 8192 (standsBeside 0 0 (operates 0 0 0 0 0) 0 0 (operates 0 0 0 0 2)) 1 (Read 0xffffffff))
     ∷ gives 3 (Bus 0 8192 (standsBeside 0 0 (operates 0 0 0 0 0) 0 0 (operates 9 0xffffffff 0xffff 0 1)) 1 (Read 8192))
-    -- an erase suspended: not on the bench; on part 7 a sector's or a block's with time left, beside nothing or a program outside its range
+    -- an erase suspended, which the bench cannot; specs/Refused.antt has those of part 7
     ∷ gives 5 (Bus 0 8192 (standsBeside 0 0 (operates 0 0 0 0 0) 0 0 (operates 1 0 0x30 1 1)) 1 Idle)
-    ∷ gives 0 (stands7 (operates 0 0 0 0 0) 1 (operates 1 7 0x30 36000 0))
-    ∷ gives 5 (stands7 (operates 0 0 0 0 0) 1 (operates 1 7 0x30 36001 0))
-    ∷ gives 0 (stands7 (operates 0 0 0 0 0) 0 (operates 2 1048575 0x50 1 1))
-    ∷ gives 5 (stands7 (operates 0 0 0 0 0) 0 (operates 2 1048576 0x50 1 1))
-    ∷ gives 5 (stands7 (operates 0 0 0 0 0) 0 (operates 3 0 0x10 1 1))
-    ∷ gives 0 (stands7 (operates 0 2048 0 28 1) 0 (operates 1 7 0x30 36000 1))
-    ∷ gives 5 (stands7 (operates 0 2047 0 28 1) 0 (operates 1 7 0x30 36000 1))
-    ∷ gives 5 (stands7 (operates 1 2048 0x30 28 1) 0 (operates 1 7 0x30 36000 1))
+    ∷ gives 0 (Bus 0 8192 (standsBeside 0 0 (operates 0 0 0 0 0) 0 0 (operates 1 0 0x30 0 1)) 1 Idle)
     ∷ []
 
 -- ---- a begin: 1, 10, 6, 7, 8, 9; WP# is high at any level but 0
