@@ -127,9 +127,13 @@ modeShows r cells Identification a = identity r a
 unfoldable pub veils : Row → Core → ℕ → Bool
 veils r k a = pick (held k) (pick (reads (k .mode)) (tells r (k .suspended) a) false) false
 
--- at rest: in a veiled range bits 7 and 6 are 1, bit 2 alternates, the others are 0
+-- there bits 7 and 6 are 1, bit 2 alternates, the others are 0
+abbrev pub veil : Core → ℕ
+veil k = BIT-7 + BIT-6 + bit2 k true * BIT-2
+
+-- at rest
 abbrev pub shownOf : Row → List ℕ → Core → ℕ → ℕ
-shownOf r cells k a = pick (veils r k a) (BIT-7 + BIT-6 + bit2 k true * BIT-2) (modeShows r cells (k .mode) a)
+shownOf r cells k a = pick (veils r k a) (veil k) (modeShows r cells (k .mode) a)
 
 -- all the part's bits but 7 inverted
 abbrev pub inverted : ℕ → ℕ → ℕ

@@ -23,7 +23,7 @@ ghost use mathlib.Core.Path.{_≡_};
 ghost use Prim.Native.Nat.{_+_, _<_, _≤_};
 ghost use lib.ListN.{length};
 ghost use mathlib.Core.Bool.{true};
-ghost use Rattle.chip.specs.Cycle.{actedOf, actionRefusal, bit2, bit6, bit7, chip, cutOf, cutShort, cycleOf, cycleRefusalOn, identity, inverted, modeShows, outputsOf, readOf, settledOf, showing, shownOf, status, tells, turnedBy, veils};
+ghost use Rattle.chip.specs.Cycle.{actedOf, actionRefusal, bit2, bit6, bit7, chip, cutOf, cutShort, cycleOf, cycleRefusalOn, identity, inverted, modeShows, outputsOf, readOf, settledOf, showing, status, tells, turnedBy, veil, veils};
 ghost use Rattle.chip.specs.Device.{pending, toggled, withRunning};
 ghost use Rattle.chip.specs.Operation.{cellsOf};
 ghost use Rattle.chip.specs.Needs.{InWords, RunsInside};
@@ -161,40 +161,30 @@ fn tells_of(row: Row, o: Operation, a: u32) -> bool
     range.holds(a)
 }
 
-// Bit 2 where it tells of an erase; elsewhere 0.
-fn bit_2(core: Core, tells: bool) -> u16
-    ensures { λ r. ⌜ r ≡ bit2 core tells ⌝ }
+// Bit 2 where it tells of an erase.
+fn bit_2(core: Core) -> u16
+    ensures { λ r. ⌜ r ≡ bit2 core true ⌝ }
 {
-    if !tells {
-        return 0;
-    }
     if core.turned {
         return 0;
     }
     1
 }
 
-// A read that shows bit 2 turns it over.
-fn turned_by(core: Core, tells: bool) -> Core
-    ensures { λ r. ⌜ r ≡ turnedBy core tells ⌝ }
-{
-    if tells {
-        return core.with_turned(!core.turned);
-    }
-    core
-}
-
-// A busy read.
+// A busy read: one that shows bit 2 turns it over.
 fn look_busy(row: Row, core: Core, a: u32) -> Shown
     ensures { λ r. ⌜ r ≡ showing (status row core a) (turnedBy (withRunning core (toggled (core .running))) (tells row (core .running) a)) ⌝ }
 {
     let o = core.running;
-    let tells = tells_of(row, o, a);
+    let value = bit_7(o) * BIT_7 + bit_6(o) * BIT_6;
     let read = core.with_running(o.toggled());
-    Shown {
-        value: bit_7(o) * BIT_7 + bit_6(o) * BIT_6 + bit_2(core, tells) * BIT_2,
-        core: turned_by(read, tells),
+    if tells_of(row, o, a) {
+        return Shown {
+            value: value + bit_2(core) * BIT_2,
+            core: read.with_turned(!core.turned),
+        };
     }
+    Shown { value, core: read }
 }
 
 // What identification mode shows at an address.
@@ -246,20 +236,6 @@ fn is_veiled(row: Row, core: Core, a: u32) -> bool
     false
 }
 
-// What a read at rest shows, an address being veiled or not, once a completion is older than 0 µs.
-fn rest_value(cells: &[u16], row: Row, core: Core, a: u32, veiled: bool) -> u16
-    requires { ⌜ InWords row ⌝ }
-    requires { ⌜ a < length (now cells) ⌝ }
-    requires { ⌜ veiled ≡ veils row core a ⌝ }
-    ensures { λ r. ⌜ r ≡ shownOf row (now (cells .entry)) core a ⌝ }
-{
-    if veiled {
-        return BIT_7 + BIT_6 + bit_2(core, true) * BIT_2;
-    }
-    let mode = core.mode;
-    mode_shows(cells, row, mode, a)
-}
-
 // What the outputs show of a value at rest: inverted while a completion is 0 µs old.
 fn outputs(width: u32, recent: bool, v: u16) -> u16
     requires { ⌜ (8 ≤ width) × (width ≤ 16) ⌝ }
@@ -271,6 +247,18 @@ fn outputs(width: u32, recent: bool, v: u16) -> u16
     v
 }
 
+// A read at rest of a veiled address: it turns bit 2 over.
+fn look_veiled(row: Row, core: Core) -> Shown
+    requires { ⌜ InWords row ⌝ }
+    ensures { λ r. ⌜ r ≡ showing (outputsOf (row .width) (core .recent) (veil core)) (turnedBy core true) ⌝ }
+{
+    let v = BIT_7 + BIT_6 + bit_2(core) * BIT_2;
+    Shown {
+        value: outputs(row.width, core.recent, v),
+        core: core.with_turned(!core.turned),
+    }
+}
+
 // A read, after its time has passed.
 fn look(cells: &[u16], row: Row, core: Core, a: u32) -> Shown
     requires { ⌜ InWords row ⌝ }
@@ -280,11 +268,14 @@ fn look(cells: &[u16], row: Row, core: Core, a: u32) -> Shown
     if core.is_busy() {
         return look_busy(row, core, a);
     }
-    let veiled = is_veiled(row, core, a);
-    let v = rest_value(cells, row, core, a, veiled);
+    if is_veiled(row, core, a) {
+        return look_veiled(row, core);
+    }
+    let mode = core.mode;
+    let v = mode_shows(cells, row, mode, a);
     Shown {
         value: outputs(row.width, core.recent, v),
-        core: turned_by(core, veiled),
+        core,
     }
 }
 

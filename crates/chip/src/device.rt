@@ -11,7 +11,7 @@ use parts::names::SECTOR;
 ghost use mathlib.Core.Path.{_≡_};
 ghost use mathlib.Core.Bool.{true};
 ghost use Rattle.parts.specs.Pick.{pick};
-ghost use Rattle.chip.specs.Device.{agedBy, atRest, barred, busy, busyWith, coreInRange, deviceInRange, freshDevice, held, heldInRange, inMode, noOperation, pending, reads, restarted, resume, runsInRange, suspend, suspendable, toggled, validOperation, withCore, withLeft, withRecent, withRunning, withTurned};
+ghost use Rattle.chip.specs.Device.{agedBy, atRest, barred, busy, busyWith, deviceInRange, freshDevice, held, heldInRange, inMode, noOperation, pending, reads, restarted, resume, runsInRange, suspend, suspendable, toggled, validOperation, withCore, withLeft, withRecent, withRunning, withTurned};
 
 // An operation: its command's number, address and data, the µs left, and what bit 6 shows at the
 // next busy read. It is pending exactly while time is left.
@@ -340,19 +340,6 @@ impl Core {
         }
         true
     }
-
-    // Whether the core is in range for the part: what runs and what is suspended, each where there is one.
-    fn in_range(self, row: Row) -> bool
-        ensures { λ r. ⌜ r ≡ coreInRange row self ⌝ }
-    {
-        if self.is_busy() {
-            if self.runs_in_range(row) {
-                return self.holds_in_range(row);
-            }
-            return false;
-        }
-        self.holds_in_range(row)
-    }
 }
 
 impl Device {
@@ -372,16 +359,16 @@ impl Device {
     {
         let core = self.core;
         let stage = self.stage;
+        if !core.holds_in_range(row) {
+            return false;
+        }
         if core.is_busy() {
             if stage == NONE_BEGUN {
-                return core.in_range(row);
+                return core.runs_in_range(row);
             }
             return false;
         }
-        if stage <= SECOND_55H {
-            return core.in_range(row);
-        }
-        false
+        stage <= SECOND_55H
     }
 }
 

@@ -11,7 +11,11 @@ returns c = simp (sym (c .before .before .is-busy .ensures) ∙ c .before .if1 .
 
 returns-2 : tie.Need-returns-2
 unfolding readOf
-returns-2 c = simp (sym (c .before .before .before .before .before .is-busy .ensures) ∙ c .before .before .before .before .if1 .left, c .before .outputs .ensures, c .turned-by .ensures, c .before .before .rest-value .ensures, c .before .before .before .is-veiled .ensures)
+returns-2 c = simp (sym (c .before .before .before .before .is-busy .ensures) ∙ c .before .before .before .if1 .left, sym (c .before .before .is-veiled .ensures) ∙ c .before .if2 .taken) (c .look-veiled .ensures)
+
+returns-3 : tie.Need-returns-3
+unfolding readOf
+returns-3 c = simp (sym (c .before .before .before .before .before .is-busy .ensures) ∙ c .before .before .before .before .if1 .left, sym (c .before .before .before .is-veiled .ensures) ∙ c .before .before .if2 .left, c .outputs .ensures, c .before .mode-shows .ensures)
 
 pub look-spec : {M : Type 1} → statement M
-look-spec = tie.close (tie.spec (λ c κs. search needs) (λ c κs. search needs) returns (λ c κs. search needs) (λ c κs. search needs) (λ c κs. search needs) (λ c κs. search needs) returns-2)
+look-spec = tie.close (tie.spec (λ c κs. search needs) (λ c κs. search needs) returns (λ c κs. search needs) (λ c κs. search needs) returns-2 (λ c κs. search needs) (λ c κs. search needs) returns-3)
