@@ -223,13 +223,13 @@ enum station_mode {
     STATION_IDENTIFICATION = 1
 };
 
-/* An operation: the command, its address and data, the microseconds left (0: there is none), and what bit 6 shows at the next read while it runs: 0 or 1. */
+/* An operation: the command, its address and data. */
 struct station_operation {
     uint32_t kind;
     uint32_t address;
     uint16_t data;
-    uint32_t left;
-    uint32_t toggle;
+    uint32_t left;   /* microseconds until it ends; 0: there is none */
+    uint32_t toggle; /* what bit 6 shows at the next read while it runs: 0 or 1 */
 };
 
 /* A device: all of a chip but its cells. */
@@ -239,7 +239,7 @@ struct station_device {
     uint32_t recent; /* 1 while a completion is 0 microseconds old, else 0 */
     uint32_t turned; /* 1 where the next read that shows bit 2 shows it as 0, else 0 */
     struct station_operation running;
-    struct station_operation suspended; /* an erase, on parts 7 to 10 */
+    struct station_operation suspended; /* a sector or block erase of parts 7 to 10 */
 };
 
 /* A reply: STATION_TAKEN or the refusal, the value read (0 but for a read), the device afterwards. */
@@ -249,13 +249,16 @@ struct station_reply {
     struct station_device device;
 };
 
-/* A fresh device: read mode, no sequence begun, nothing running, no completion 0 microseconds old. */
+/* A fresh device: read mode, no sequence begun, nothing running, nothing suspended, no completion 0
+   microseconds old. */
 struct station_device station_fresh(void);
 
 /* One bus cycle on all n cells of a part, elapsed microseconds after the last one, at a WP# level:
    a read, a write, time alone, or a power cut, which leaves the scar on the cells of an operation
-   that it cuts short. At the moment of a completion a read shows all the part's bits but 7 inverted,
-   the whole value 1 microsecond later. Refused with STATION_NO_PART, STATION_WRONG_CELLS,
+   that it cuts short, running or suspended. At the moment of a completion a read shows all the
+   part's bits but 7 inverted, the whole value 1 microsecond later. On parts 7 to 10 the data B0H at
+   any address suspends a sector or block erase that runs, and 30H, no sequence being begun, resumes
+   it (docs/USING.md). Refused with STATION_NO_PART, STATION_WRONG_CELLS,
    STATION_BAD_STATE; then a read and a write with STATION_NO_ADDRESS, and a write with
    STATION_DATA_TOO_LARGE. */
 struct station_reply station_read(uint32_t part, uint16_t *cells, size_t n,

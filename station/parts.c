@@ -97,6 +97,24 @@ uint16_t blank_of(uint32_t part)
     return station_figure(part, STATION_WIDTH) == 16 ? 0xffff : 0xff;
 }
 
+int holds_erases(uint32_t part, bool *held)
+{
+    enum { ERASE_WRITES = 6, SUSPEND = 0xb0 };
+    const size_t cells = station_figure(part, STATION_CELLS);
+    uint16_t *lent = (uint16_t *)calloc(cells + 1, sizeof *lent);
+    struct station_device device = station_fresh();
+    if (lent == NULL)
+        return no_memory();
+    for (uint32_t k = 0; k < ERASE_WRITES; k++)
+        device = station_write(part, lent, cells, device, 0, 1, station_write_address(part, STATION_SECTOR_ERASE, 0, 0, k),
+                               station_write_data(part, STATION_SECTOR_ERASE, 0, 0, k))
+                     .device;
+    device = station_write(part, lent, cells, device, 0, 1, 0, SUSPEND).device;
+    free(lent);
+    *held = device.suspended.left > 0;
+    return STATUS_DONE;
+}
+
 /* Prints a figure, right in its column; "none" for a block that is none. */
 static void print_figure(uint32_t part, uint32_t column, int width)
 {
@@ -113,12 +131,15 @@ static void print_figure(uint32_t part, uint32_t column, int width)
 
 int print_parts(void)
 {
-    printf("No  Part     Bits      Cells  Sector   Block  Device  Program   Erase     Chip\n"
-           "                              cells   cells      ID       " MICROS "      " MICROS "       " MICROS "\n");
+    printf("No  Part     Bits      Cells  Sector   Block  Device  Program   Erase     Chip  Erase\n"
+           "                              cells   cells      ID       " MICROS "      " MICROS "       " MICROS "   held\n");
     for (uint32_t part = 0; station_figure_answer(part, STATION_WIDTH) == STATION_TAKEN; part++) {
         char text[WORD];
         size_t sector;
+        bool held;
         int status = sector_of(part, &sector);
+        if (status == STATUS_DONE)
+            status = holds_erases(part, &held);
         if (status != STATUS_DONE)
             return status;
         printf("%2" PRIu32 "  %-8s", part, part_name(part));
@@ -130,7 +151,7 @@ int print_parts(void)
         print_figure(part, STATION_PROGRAM_TIME, 9);
         print_figure(part, STATION_ERASE_TIME, 8);
         print_figure(part, STATION_CHIP_TIME, 9);
-        printf("\n");
+        printf("%7s\n", held ? "yes" : "no");
     }
     return STATUS_DONE;
 }

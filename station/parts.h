@@ -19,6 +19,9 @@ bool number_of(const char *text, uint32_t *number);
 /* The cells of a sector: the least number of values of which a job is taken; 0 where there is no such part. */
 int sector_of(uint32_t part, size_t *sector);
 
+/* Whether an erase of the part can be suspended and resumed: whether the model, asked so, suspends one. */
+int holds_erases(uint32_t part, bool *held);
+
 /* What a blank cell of the part holds. */
 uint16_t blank_of(uint32_t part);
 

@@ -1,7 +1,7 @@
 -- What is known of an accepted cycle and of a state in range.
 use Prim.Native.Nat.{ℕ, _+_, _≤_, _<_}
-use mathlib.Core.Path.{_≡_, refl, sym, _∙_}
-use mathlib.Core.Bool.{Bool, true, false}
+use mathlib.Core.Path.{_≡_, refl, sym, ap, _∙_}
+use mathlib.Core.Bool.{Bool, true, false, not}
 use native.Mathlib.Omega.{arith}
 use borrow.Author.Tests.{ltb-true, ltb-false, lt-ltb, le-ltb, le-leb, eqb-true, eq-eqb}
 use lib.Dec.{eqb, ltb}
@@ -23,7 +23,7 @@ use Rattle.chip.specs.declared.device.Core.{Core}
 use Rattle.chip.specs.declared.device.Device.{Device}
 use Rattle.chip.specs.declared.cycle.Action.{Action}
 use Rattle.chip.specs.declared.cycle.Action.the-variants.{Read, Write}
-use Rattle.chip.specs.Device.{restarted, agedBy, device, busy, held, reads, suspendable, barred, validOperation, runsInRange, heldInRange, coreInRange, stageInRange, deviceInRange}
+use Rattle.chip.specs.Device.{restarted, pending, agedBy, device, busy, held, reads, suspendable, barred, validOperation, runsInRange, validSuspended, heldInRange, coreInRange, stageInRange, deviceInRange}
 use Rattle.chip.specs.Operation.{cellsOf}
 use Rattle.chip.specs.Cycle.{actionRefusal, cycleRefusal}
 use Rattle.chip.specs.Needs.{InWords, RunsInside}
@@ -69,7 +69,7 @@ pub record Valid (r : Row) (k : Core) : Type 0 where
 -- with what runs and what is suspended, each where there is one
 pub record Ranged (r : Row) (k : Core) : Type 0 where
   pub runs : busy k ≡ true → Valid r k
-  pub holds : held k ≡ true → heldInRange r (k .suspended) ≡ true
+  pub holds : held k ≡ true → validSuspended r (k .suspended) ≡ true
 
 pub read-mode : (m : Mode) → reads m ≡ true → m ≡ ReadMode
 read-mode ReadMode e = refl
@@ -90,38 +90,62 @@ parts-valid : (r : Row) (o : Operation) → hasCommand r (o .kind) ≡ true → 
 unfolding validOperation
 parts-valid r o c t a f = simp (c, le-ltb _ _ t, lt-ltb _ _ a) f
 
-runs-valid : (r : Row) (k : Core) → runsInRange r k ≡ true → Valid r k
-unfolding runsInRange
-runs-valid r k e =
-    let f = unless (k .recent) _ e in
-    let g = both (reads (k .mode)) _ (f .1) in
-    let h = unless (barred r (k .suspended) (k .running .kind) (k .running .address)) (validOperation r (k .running)) (g .1) in
-    let w = valid-parts r (k .running) (h .1) in
-    record { command = w .0; time = w .1 .0; there = w .1 .1 .0; fits = w .1 .1 .1; mode = read-mode (k .mode) (g .0); old = f .0; free = h .0 }
+-- where nothing is suspended, nothing is barred
+pub free-alone : (r : Row) (s : Operation) (c a : ℕ) → pending s ≡ false → barred r s c a ≡ false
+unfolding barred
+free-alone r s c a n = rw n
+
+-- not barred where what is suspended is in range
+not-barred : (b : Bool) → not b ≡ true → b ≡ false
+not-barred true e = apart e
+not-barred false e = refl
 
 pub ranged : (r : Row) (k : Core) → coreInRange r k ≡ true → Ranged r k
-unfolding coreInRange
+unfolding coreInRange runsInRange heldInRange
 ranged r k e =
-    let w = both (pick (busy k) (runsInRange r k) true) (pick (held k) (heldInRange r (k .suspended)) true) e in
-    record { runs = λ b. runs-valid r k (given (busy k) (runsInRange r k) b (w .0)); holds = λ b. given (held k) (heldInRange r (k .suspended)) b (w .1) }
+    record {
+      runs = λ b.
+          let f = unless (k .recent) _ (given (busy k) (pick (k .recent) false (pick (reads (k .mode)) (validOperation r (k .running)) false)) b (w .0)) in
+          let g = both (reads (k .mode)) (validOperation r (k .running)) (f .1) in
+          let v = valid-parts r (k .running) (g .1) in
+          record { command = v .0; time = v .1 .0; there = v .1 .1 .0; fits = v .1 .1 .1; mode = read-mode (k .mode) (g .0); old = f .0; free = free b (held k) refl };
+      holds = λ h. parts h .0;
+    }
+  where
+    beside : Bool
+    beside = pick (busy k) (not (barred r (k .suspended) (k .running .kind) (k .running .address))) true
+
+    w : (pick (busy k) (pick (k .recent) false (pick (reads (k .mode)) (validOperation r (k .running)) false)) true ≡ true)
+        × (pick (held k) (pick (validSuspended r (k .suspended)) beside false) true ≡ true)
+    w = both (pick (busy k) (pick (k .recent) false (pick (reads (k .mode)) (validOperation r (k .running)) false)) true) (pick (held k) (pick (validSuspended r (k .suspended)) beside false) true) e
+
+    parts : held k ≡ true → (validSuspended r (k .suspended) ≡ true) × (beside ≡ true)
+    parts h = both (validSuspended r (k .suspended)) beside (given (held k) (pick (validSuspended r (k .suspended)) beside false) h (w .1))
+
+    free : busy k ≡ true → (t : Bool) → held k ≡ t → barred r (k .suspended) (k .running .kind) (k .running .address) ≡ false
+    free b true h = not-barred _ (given (busy k) (not (barred r (k .suspended) (k .running .kind) (k .running .address))) b (parts h .1))
+    free b false h = free-alone r (k .suspended) (k .running .kind) (k .running .address) h
 
 pub core-range : (r : Row) (k : Core) → Ranged r k → coreInRange r k ≡ true
-unfolding coreInRange runsInRange
-core-range r k w = rw (where-so (busy k) _ runs, where-so (held k) _ (w .holds))
+unfolding coreInRange runsInRange heldInRange
+core-range r k w = rw (where-so (busy k) _ runs, where-so (held k) _ holds)
   where
     where-so : (b c : Bool) → (b ≡ true → c ≡ true) → pick b c true ≡ true
     where-so true c f = f refl
     where-so false c f = refl
 
-    runs : busy k ≡ true → runsInRange r k ≡ true
-    runs b = let v = w .runs b in simp (v .old, v .mode, v .free) (parts-valid r (k .running) (v .command) (v .time) (v .there) (v .fits))
+    runs : busy k ≡ true → pick (k .recent) false (pick (reads (k .mode)) (validOperation r (k .running)) false) ≡ true
+    runs b = let v = w .runs b in simp (v .old, v .mode) (parts-valid r (k .running) (v .command) (v .time) (v .there) (v .fits))
+
+    holds : held k ≡ true → pick (validSuspended r (k .suspended)) (pick (busy k) (not (barred r (k .suspended) (k .running .kind) (k .running .address))) true) false ≡ true
+    holds h = rw (w .holds h) (where-so (busy k) _ (λ b. ap not (w .runs b .free)))
 
 -- what is suspended is valid, and can be
-pub held-valid : (r : Row) (s : Operation) → heldInRange r s ≡ true → (suspendable r (s .kind) ≡ true) × (validOperation r s ≡ true)
-unfolding heldInRange
+pub held-valid : (r : Row) (s : Operation) → validSuspended r s ≡ true → (suspendable r (s .kind) ≡ true) × (validOperation r s ≡ true)
+unfolding validSuspended
 held-valid r s e = both (suspendable r (s .kind)) (validOperation r s) e
 
-pub held-fits : (r : Row) (s : Operation) → heldInRange r s ≡ true → fitsIn (r .width) (s .«data») ≡ true
+pub held-fits : (r : Row) (s : Operation) → validSuspended r s ≡ true → fitsIn (r .width) (s .«data») ≡ true
 held-fits r s e = valid-parts r s (held-valid r s e .1) .1 .1 .1
 
 -- what runs is valid whatever bit 6 shows next
@@ -143,7 +167,7 @@ pub valid-range : (r : Row) (k : Core) → held k ≡ false → Valid r k → co
 valid-range r k n v = core-range r k (record { runs = λ _. v; holds = λ h. apart (sym n ∙ h) })
 
 -- at rest any core is in range whose suspended erase is
-pub rests-range : (r : Row) (k : Core) → busy k ≡ false → (held k ≡ true → heldInRange r (k .suspended) ≡ true) → coreInRange r k ≡ true
+pub rests-range : (r : Row) (k : Core) → busy k ≡ false → (held k ≡ true → validSuspended r (k .suspended) ≡ true) → coreInRange r k ≡ true
 rests-range r k b h = core-range r k (record { runs = λ e. apart (sym b ∙ e); holds = h })
 
 pub rest-range : (r : Row) (k : Core) → busy k ≡ false → held k ≡ false → coreInRange r k ≡ true

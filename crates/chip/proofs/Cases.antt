@@ -24,7 +24,7 @@ use Rattle.chip.specs.declared.cycle.Action.{Action}
 use Rattle.chip.specs.declared.cycle.Action.the-variants.{Read, Write, Idle, Cut}
 use Rattle.chip.specs.declared.cycle.Cycle.{Cycle}
 use Rattle.chip.specs.declared.cycle.Shown.{Shown}
-use Rattle.chip.specs.Device.{withLeft, toggled, withRunning, withRecent, atRest, agedBy, busy, held, device, withCore, barred, heldInRange, coreInRange, coreIdle}
+use Rattle.chip.specs.Device.{withLeft, toggled, withRunning, withRecent, atRest, agedBy, busy, held, device, withCore, barred, validSuspended, coreInRange, coreIdle}
 use Rattle.chip.specs.Operation.{cellsOf, completeOn}
 use Rattle.commands.specs.Commands.{effectOf}
 use Rattle.chip.specs.Sequence.{ignored, passedOver, resuming, afterEffect, writtenOf}
@@ -164,7 +164,7 @@ module _ (part : ℕ) (cells : List ℕ) (known : partRefusal part ≡ 0) (whole
       ∙ rw (completes (rowOf part) cells k e s l, unveiled (rowOf part) (atRest k (eqb e (k .running .left))) a n, v .mode)
 
   -- a write at rest, at a stage, what is suspended being in range and not resumed by it
-  module _ (k : Core) (s e : ℕ) (wp : Bool) (x : ℕ) (b : busy k ≡ false) (holds : held k ≡ true → heldInRange (rowOf part) (k .suspended) ≡ true)
+  module _ (k : Core) (s e : ℕ) (wp : Bool) (x : ℕ) (b : busy k ≡ false) (holds : held k ≡ true → validSuspended (rowOf part) (k .suspended) ≡ true)
       (still : resuming k s x ≡ false) (le : s ≤ 6) (fits : fitsIn (rowOf part .width) x ≡ true) where
     write-accepted : Accepted part (length cells) (device k s) (Write a x)
     unfolding actionRefusal

@@ -22,7 +22,7 @@ use Rattle.chip.specs.declared.cycle.Action.{Action}
 use Rattle.chip.specs.declared.cycle.Action.the-variants.{Read, Write, Idle, Cut}
 use Rattle.chip.specs.declared.cycle.Cycle.{Cycle}
 use Rattle.chip.specs.declared.cycle.Shown.{Shown}
-use Rattle.chip.specs.Device.{toggled, inMode, withRunning, busyWith, suspend, resume, freshCore, busy, held, device, withCore, suspendable, barred, validOperation, heldInRange, coreInRange, stageInRange, deviceInRange}
+use Rattle.chip.specs.Device.{toggled, inMode, withRunning, busyWith, suspend, resume, freshCore, busy, held, device, withCore, suspendable, barred, validOperation, validSuspended, coreInRange, stageInRange, deviceInRange}
 use Rattle.chip.specs.Sequence.{newOperation, suspending, resuming, afterEffect, writtenOf}
 use Rattle.chip.specs.Cycle.{Chip, Outcome, tells, turnedBy, veils, readOf, cutShort, cutOf, actionRefusal, cycleRefusal, afterTime, actedOf, acceptedOf, cycleOf}
 use Rattle.chip.specs.Trace.{after, play}
@@ -55,7 +55,7 @@ module _ (r : Row) (d : Device) (i : deviceInRange r d ≡ true) where
       k = d .core
 
   written-range : (wp : Bool) (a x : ℕ) → a < r .cells → fitsIn (r .width) x ≡ true → InRange (writtenOf r d wp a x)
-  unfolding writtenOf heldInRange barred validOperation
+  unfolding writtenOf validSuspended barred validOperation
   written-range wp a x there fits =
       split InRange (busy k) _ _
       (λ b. split InRange (suspending r k x) (device (suspend k) 0) d (λ s. suspends b (both (suspendable r (k .running .kind)) _ s .0)) (λ _. i))

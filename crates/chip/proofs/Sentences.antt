@@ -24,7 +24,7 @@ use Rattle.chip.specs.declared.cycle.Action.{Action}
 use Rattle.chip.specs.declared.cycle.Action.the-variants.{Read, Write, Idle, Cut}
 use Rattle.chip.specs.declared.cycle.Cycle.{Cycle}
 use Rattle.chip.specs.declared.cycle.Shown.{Shown}
-use Rattle.chip.specs.Device.{noOperation, pending, busy, held, device, withCore, freshDevice, core, inMode, busyWith, agedBy, heldInRange, deviceInRange}
+use Rattle.chip.specs.Device.{noOperation, pending, busy, held, device, withCore, freshDevice, core, inMode, busyWith, agedBy, validSuspended, deviceInRange}
 use Rattle.commands.specs.Commands.{broken, effectOf}
 use Rattle.chip.specs.Operation.{cellsOf, over, scarred, cutOn}
 use Rattle.chip.specs.Sequence.{suspending, resuming, afterEffect, writtenOf}
@@ -130,7 +130,7 @@ module _ (part : ℕ) (cells : List ℕ) (d : Device) (e : ℕ) (wp : Bool) wher
 -- ---- of writes in sequence
 -- on the lent cells of a known part, at rest, at any stage, an erase that is suspended being in range
 module _ (part : ℕ) (cells : List ℕ) (known : partRefusal part ≡ 0) (whole : length cells ≡ rowOf part .cells) (a : ℕ) (there : a < rowOf part .cells)
-    (k : Core) (s e : ℕ) (wp : Bool) (x : ℕ) (b : busy k ≡ false) (holds : held k ≡ true → heldInRange (rowOf part) (k .suspended) ≡ true)
+    (k : Core) (s e : ℕ) (wp : Bool) (x : ℕ) (b : busy k ≡ false) (holds : held k ≡ true → validSuspended (rowOf part) (k .suspended) ≡ true)
     (le : s ≤ 6) (fits : fitsIn (rowOf part .width) x ≡ true) where
   -- read mode, no sequence begun, nothing started, what is suspended and the cells as they were
   abbrev Returns : Type 0

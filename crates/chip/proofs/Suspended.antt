@@ -2,7 +2,7 @@
 -- resumed, it takes what was left. On a part that cannot suspend nothing is as it was not before.
 use Prim.Native.Nat.{ℕ, _+_, _-_, _*_, _%_, _≤_, _<_}
 use mathlib.Core.Path.{_≡_, refl, sym, ap, _∙_}
-use mathlib.Core.Bool.{Bool, true, false}
+use mathlib.Core.Bool.{Bool, true, false, not}
 use mathlib.Core.List.{List, [], _∷_, _++_}
 use native.Mathlib.Omega.{arith}
 use borrow.Author.Tests.{ltb-false, lt-ltb, le-ltb, eq-eqb, eqb-true}
@@ -24,10 +24,10 @@ use Rattle.chip.specs.declared.cycle.Action.{Action}
 use Rattle.chip.specs.declared.cycle.Action.the-variants.{Read, Write, Idle, Cut}
 use Rattle.chip.specs.declared.cycle.Cycle.{Cycle}
 use Rattle.chip.specs.declared.cycle.Shown.{Shown}
-use Rattle.chip.specs.Device.{noOperation, withLeft, toggled, restarted, pending, core, withRunning, agedBy, suspend, resume, busy, held, device, withCore, suspendable, heldInRange, coreInRange, deviceInRange}
+use Rattle.chip.specs.Device.{noOperation, withLeft, toggled, restarted, pending, core, withRunning, agedBy, suspend, resume, busy, held, device, withCore, suspendable, validSuspended, coreInRange, deviceInRange}
 use Rattle.chip.specs.Operation.{cellsOf}
 use Rattle.chip.specs.Sequence.{ignored, passedOver, suspending, resuming, afterEffect, writtenOf}
-use Rattle.chip.specs.Cycle.{cycle, Chip, chip, Outcome, Settled, settledOf, afterTime, bit7, bit6, tells, modeShows, outputsOf, showing, veils, readOf, actedOf, acceptedOf, cycleRefusal, cycleOf}
+use Rattle.chip.specs.Cycle.{cycle, Chip, chip, Outcome, Settled, settledOf, afterTime, bit7, bit6, tells, turnedBy, status, modeShows, shownOf, outputsOf, showing, veils, readOf, actedOf, acceptedOf, cycleRefusal, cycleOf}
 use Rattle.chip.specs.Trace.{leaves, after, play, effectStarts, actionStarts, startedBy, startedIn, All, uncutAction, uncut}
 use Rattle.chip.specs.Suspended.{stays, ProgramBeside, RunsElsewhere, Elsewhere, Stands}
 use Rattle.chip.proofs.Accepted.{Accepted, accepted, Ranged, ranged, held-valid, ranges}
@@ -190,6 +190,27 @@ resumed-is part cs h u y e wp a x z l s q =
     resumes-so d t b m =
         let y′ : held (d .core) ≡ true = ap pending m ∙ stays-held part cs h y in
         simp (b, y′, eq-eqb (d .stage) 0 t, eq-eqb (x % 256) 0x30 q) (ap (λ (o : Operation). device (core ReadMode false false (restarted o) noOperation) 0) m)
+
+-- ---- bit 2
+-- an erase is not told of outside its range, nor is a program anywhere
+pub untold-outside : (r : Row) (o : Operation) (a : ℕ) → holdsb (cellsOf r o) a ≡ false → tells r o a ≡ false
+unfolding tells
+untold-outside r o a n = simp (n, pick-same)
+
+pub untold-program : (r : Row) (o : Operation) (a : ℕ) → o .kind ≡ 0 → tells r o a ≡ false
+unfolding tells
+untold-program r o a k = simp (eq-eqb (o .kind) 0 k, pick-same)
+
+-- a read turns it over exactly where it shows it: of a busy chip where it tells of what runs, at rest where what is suspended veils the address
+pub turned-exactly : (r : Row) (cells : List ℕ) (k : Core) (a : ℕ)
+    → readOf r cells k a .core .turned ≡ pick (pick (busy k) (tells r (k .running) a) (veils r k a)) (not (k .turned)) (k .turned)
+unfolding readOf
+turned-exactly r cells k a = by (busy k)
+  where
+    by : (b : Bool) → pick b (showing (status r k a) (turnedBy (withRunning k (toggled (k .running))) (tells r (k .running) a))) (showing (outputsOf (r .width) (k .recent) (shownOf r cells k a)) (turnedBy k (veils r k a))) .core .turned
+        ≡ pick (pick b (tells r (k .running) a) (veils r k a)) (not (k .turned)) (k .turned)
+    by true = refl
+    by false = refl
 
 -- ---- a part that cannot suspend
 module _ (r : Row) (plain : r .suspends ≡ false) where

@@ -129,21 +129,24 @@ suspendable r c = pick (r .suspends) (pick (eqb c SECTOR) true (eqb c BLOCK)) fa
 unfoldable pub barred : Row → Operation → ℕ → ℕ → Bool
 barred r s c a = pick (pending s) (pick (eqb c PROGRAM) (holdsb (cellsOf r s) a) true) false
 
--- what runs: with no completion 0 µs old, in read mode, nothing that a suspended erase bars, a valid operation
+-- what runs: with no completion 0 µs old, in read mode, a valid operation
 unfoldable pub runsInRange : Row → Core → Bool
-runsInRange r k =
-    pick (k .recent) false
-    (pick (reads (k .mode))
-    (pick (barred r (k .suspended) (k .running .kind) (k .running .address)) false (validOperation r (k .running)))
-    false)
+runsInRange r k = pick (k .recent) false (pick (reads (k .mode)) (validOperation r (k .running)) false)
 
 -- what is suspended: one that can be, a valid operation
-unfoldable pub heldInRange : Row → Operation → Bool
-heldInRange r s = pick (suspendable r (s .kind)) (validOperation r s) false
+unfoldable pub validSuspended : Row → Operation → Bool
+validSuspended r s = pick (suspendable r (s .kind)) (validOperation r s) false
+
+-- such a one, beside which nothing runs that it bars
+unfoldable pub heldInRange : Row → Core → Bool
+heldInRange r k =
+    pick (validSuspended r (k .suspended))
+    (pick (busy k) (not (barred r (k .suspended) (k .running .kind) (k .running .address))) true)
+    false
 
 -- what runs and what is suspended, each where there is one
 unfoldable pub coreInRange : Row → Core → Bool
-coreInRange r k = pick (pick (busy k) (runsInRange r k) true) (pick (held k) (heldInRange r (k .suspended)) true) false
+coreInRange r k = pick (pick (busy k) (runsInRange r k) true) (pick (held k) (heldInRange r k) true) false
 
 -- a step within the seven stages; with an operation pending no sequence
 unfoldable pub stageInRange : Core → ℕ → Bool

@@ -11,14 +11,14 @@ use parts::names::SECTOR;
 ghost use mathlib.Core.Path.{_≡_};
 ghost use mathlib.Core.Bool.{true};
 ghost use Rattle.parts.specs.Pick.{pick};
-ghost use Rattle.chip.specs.Device.{agedBy, atRest, barred, busy, busyWith, deviceInRange, freshDevice, held, heldInRange, inMode, noOperation, pending, reads, restarted, resume, runsInRange, suspend, suspendable, toggled, validOperation, withCore, withLeft, withRecent, withRunning, withTurned};
+ghost use Rattle.chip.specs.Device.{agedBy, atRest, barred, busy, busyWith, deviceInRange, freshDevice, held, heldInRange, inMode, noOperation, pending, reads, restarted, resume, runsInRange, suspend, suspendable, toggled, validOperation, validSuspended, withCore, withLeft, withRecent, withRunning, withTurned};
 
 // An operation: its command's number, address and data, the µs left, and what bit 6 shows at the
 // next busy read. It is pending exactly while time is left.
 pub struct Operation {
     pub kind: u32,
-    pub address: u32,
     pub left: u32,
+    pub address: u32,
     pub data: u16,
     pub toggle: bool,
 }
@@ -116,7 +116,7 @@ impl Operation {
 
     // Whether, suspended, it is one that the part can have so.
     fn is_valid_suspended(self, row: Row) -> bool
-        ensures { λ r. ⌜ r ≡ heldInRange row self ⌝ }
+        ensures { λ r. ⌜ r ≡ validSuspended row self ⌝ }
     {
         if is_suspendable(row, self.kind) {
             return self.is_valid(row);
@@ -319,24 +319,27 @@ impl Core {
             return false;
         }
         let mode = self.mode;
-        if !reads_cells(mode) {
-            return false;
+        if reads_cells(mode) {
+            let o = self.running;
+            return o.is_valid(row);
         }
-        let o = self.running;
-        let s = self.suspended;
-        if s.bars(row, o.kind, o.address) {
-            return false;
-        }
-        o.is_valid(row)
+        false
     }
 
     // Whether what is suspended, where something is, is in range for the part.
     fn holds_in_range(self, row: Row) -> bool
-        ensures { λ r. ⌜ r ≡ pick (held self) (heldInRange row (self .suspended)) true ⌝ }
+        ensures { λ r. ⌜ r ≡ pick (held self) (heldInRange row self) true ⌝ }
     {
-        if self.is_held() {
-            let s = self.suspended;
-            return s.is_valid_suspended(row);
+        if !self.is_held() {
+            return true;
+        }
+        let s = self.suspended;
+        if !s.is_valid_suspended(row) {
+            return false;
+        }
+        if self.is_busy() {
+            let o = self.running;
+            return !s.bars(row, o.kind, o.address);
         }
         true
     }
@@ -376,8 +379,9 @@ impl Device {
 pub fn fresh() -> Device
     ensures { λ r. ⌜ r ≡ freshDevice ⌝ }
 {
+    let mode = Mode::ReadMode;
     let core = Core {
-        mode: Mode::ReadMode,
+        mode,
         recent: false,
         turned: false,
         running: no_operation(),

@@ -15,7 +15,7 @@ use Rattle.parts.specs.Time.{hasCommand, timeOf, isInterval, roundedUp}
 use Rattle.parts.proofs.Every.{every, both}
 use Rattle.chip.specs.declared.device.Device.{Device}
 use Rattle.chip.specs.declared.cycle.Cycle.{Cycle}
-use Rattle.chip.specs.Device.{freshDevice, suspendable, barred, validOperation, runsInRange, heldInRange, coreInRange, stageInRange, deviceInRange}
+use Rattle.chip.specs.Device.{freshDevice, suspendable, barred, validOperation, runsInRange, validSuspended, heldInRange, coreInRange, stageInRange, deviceInRange}
 use Rattle.chip.specs.Operation.{cellsOf, completeOn, cutOn}
 use Rattle.commands.specs.Commands.{effectOf}
 use Rattle.chip.specs.Sequence.{ignored, passedOver, writtenOf}
@@ -124,7 +124,7 @@ on-every [] c = refl
 on-every (k ∷ ks) c = let b = both (computes k) (every computes ks) c in rw (on-marked k (b .0)) (on-every ks (b .1))
 
 computed : every computes cases ≡ true
-unfolding computes holdsOn ranOn cycleOn reckon reckonAll accepts acceptsAll rowOf partRefusal fitsIn sectorSize holdsb hasBlocks sectorOf blockOf protectedOf hasCommand timeOf validOperation suspendable barred runsInRange heldInRange
+unfolding computes holdsOn ranOn cycleOn reckon reckonAll accepts acceptsAll rowOf partRefusal fitsIn sectorSize holdsb hasBlocks sectorOf blockOf protectedOf hasCommand timeOf validOperation suspendable barred runsInRange validSuspended heldInRange
     coreInRange stageInRange deviceInRange cellsOf completeOn cutOn effectOf ignored passedOver writtenOf actionRefusal cycleRefusal settledOf tells veils readOf cutOf acceptedOf lastWrite
     isInterval roundedUp fitAll meets protectionRefusal sectorsRefusal rangeRefusal jobRefusal totalOf confirmAfter fullOf filling looking deciding decidingAll
 computed = refl
@@ -139,27 +139,27 @@ on-cases [] c = refl
 on-cases (k ∷ ks) c = let b = both (holdsOn k) (every holdsOn ks) c in rw (on-case k ∙ b .0) (on-cases ks (b .1))
 
 computed-sheets : every holdsOn (shownAll sheets) ≡ true
-unfolding holdsOn ranOn cycleOn rowOf partRefusal fitsIn sectorSize holdsb hasBlocks sectorOf blockOf protectedOf hasCommand timeOf validOperation suspendable barred runsInRange heldInRange coreInRange
+unfolding holdsOn ranOn cycleOn rowOf partRefusal fitsIn sectorSize holdsb hasBlocks sectorOf blockOf protectedOf hasCommand timeOf validOperation suspendable barred runsInRange validSuspended heldInRange coreInRange
     stageInRange deviceInRange cellsOf completeOn cutOn effectOf ignored passedOver writtenOf actionRefusal cycleRefusal settledOf tells veils readOf cutOf acceptedOf
 computed-sheets = refl
 
 computed-ends : every holdsOn (protectedEnds ++ comparedBits) ≡ true
-unfolding holdsOn ranOn cycleOn rowOf partRefusal fitsIn sectorSize holdsb hasBlocks sectorOf blockOf protectedOf hasCommand timeOf validOperation suspendable barred runsInRange heldInRange coreInRange
+unfolding holdsOn ranOn cycleOn rowOf partRefusal fitsIn sectorSize holdsb hasBlocks sectorOf blockOf protectedOf hasCommand timeOf validOperation suspendable barred runsInRange validSuspended heldInRange coreInRange
     stageInRange deviceInRange cellsOf completeOn cutOn effectOf ignored passedOver writtenOf actionRefusal cycleRefusal settledOf tells veils readOf cutOf acceptedOf
 computed-ends = refl
 
 computed-sentences : every holdsOn sentences ≡ true
-unfolding holdsOn ranOn cycleOn rowOf partRefusal fitsIn sectorSize holdsb hasBlocks sectorOf blockOf protectedOf hasCommand timeOf validOperation suspendable barred runsInRange heldInRange coreInRange
+unfolding holdsOn ranOn cycleOn rowOf partRefusal fitsIn sectorSize holdsb hasBlocks sectorOf blockOf protectedOf hasCommand timeOf validOperation suspendable barred runsInRange validSuspended heldInRange coreInRange
     stageInRange deviceInRange cellsOf completeOn cutOn effectOf ignored passedOver writtenOf actionRefusal cycleRefusal settledOf tells veils readOf cutOf acceptedOf
 computed-sentences = refl
 
 computed-edges : every holdsOn edges ≡ true
-unfolding holdsOn ranOn cycleOn rowOf partRefusal fitsIn sectorSize holdsb hasBlocks sectorOf blockOf protectedOf hasCommand timeOf validOperation suspendable barred runsInRange heldInRange coreInRange
+unfolding holdsOn ranOn cycleOn rowOf partRefusal fitsIn sectorSize holdsb hasBlocks sectorOf blockOf protectedOf hasCommand timeOf validOperation suspendable barred runsInRange validSuspended heldInRange coreInRange
     stageInRange deviceInRange cellsOf completeOn cutOn effectOf ignored passedOver writtenOf actionRefusal cycleRefusal settledOf tells veils readOf cutOf acceptedOf
 computed-edges = refl
 
 computed-holds : every holdsOn holds ≡ true
-unfolding holdsOn ranOn cycleOn rowOf partRefusal fitsIn sectorSize holdsb hasBlocks sectorOf blockOf protectedOf hasCommand timeOf validOperation suspendable barred runsInRange heldInRange coreInRange
+unfolding holdsOn ranOn cycleOn rowOf partRefusal fitsIn sectorSize holdsb hasBlocks sectorOf blockOf protectedOf hasCommand timeOf validOperation suspendable barred runsInRange validSuspended heldInRange coreInRange
     stageInRange deviceInRange cellsOf completeOn cutOn effectOf ignored passedOver writtenOf actionRefusal cycleRefusal settledOf tells veils readOf cutOf acceptedOf
 computed-holds = refl
 

@@ -7,7 +7,7 @@ use Rattle.parts.specs.Table.{rowOf, partRefusal}
 use Rattle.parts.specs.Span.{holdsb, hasBlocks, sectorOf, blockOf, protectedOf}
 use Rattle.parts.specs.Time.{hasCommand, timeOf, isInterval}
 use Rattle.parts.proofs.Every.{every}
-use Rattle.chip.specs.Device.{suspendable, barred, validOperation, runsInRange, heldInRange, coreInRange, stageInRange, deviceInRange}
+use Rattle.chip.specs.Device.{suspendable, barred, validOperation, runsInRange, validSuspended, heldInRange, coreInRange, stageInRange, deviceInRange}
 use Rattle.chip.specs.Operation.{cellsOf}
 use Rattle.chip.specs.Cycle.{actionRefusal, cycleRefusal}
 use Rattle.driver.specs.Refusals.{dataRefusal, targetRefusal, commandRefusal, startRefusal}
@@ -19,7 +19,7 @@ use Rattle.jobfile.specs.JobFile.{wrong, malformed, jobOf, valuesOf}
 use Rattle.demands.specs.Refused.{answeredSo, figures, writes, starts, cycles, jobs, fileBytes, fileAsks, fileValues}
 
 pub calls-refused : every answeredSo (figures ++ (writes ++ (starts ++ cycles))) ≡ true
-unfolding rowOf partRefusal fitsIn hasBlocks hasCommand timeOf isInterval sectorSize holdsb sectorOf cellsOf validOperation suspendable barred runsInRange heldInRange coreInRange stageInRange deviceInRange actionRefusal cycleRefusal dataRefusal targetRefusal
+unfolding rowOf partRefusal fitsIn hasBlocks hasCommand timeOf isInterval sectorSize holdsb sectorOf cellsOf validOperation suspendable barred runsInRange validSuspended heldInRange coreInRange stageInRange deviceInRange actionRefusal cycleRefusal dataRefusal targetRefusal
     commandRefusal startRefusal writeCount
 calls-refused = refl
 

@@ -7,7 +7,7 @@ use Rattle.parts.specs.Table.{rowOf, partRefusal}
 use Rattle.parts.specs.Span.{holdsb, hasBlocks, sectorOf, blockOf, protectedOf}
 use Rattle.parts.specs.Time.{hasCommand, timeOf, isInterval, roundedUp}
 use Rattle.parts.proofs.Every.{every}
-use Rattle.chip.specs.Device.{suspendable, barred, validOperation, runsInRange, heldInRange, coreInRange, stageInRange, deviceInRange}
+use Rattle.chip.specs.Device.{suspendable, barred, validOperation, runsInRange, validSuspended, heldInRange, coreInRange, stageInRange, deviceInRange}
 use Rattle.chip.specs.Operation.{cellsOf}
 use Rattle.chip.specs.Cycle.{actionRefusal, cycleRefusal, settledOf, cutOf, acceptedOf, cycleOf}
 use Rattle.driver.specs.Refusals.{dataRefusal, targetRefusal, startRefusal}
@@ -28,7 +28,7 @@ unfolding rowOf partRefusal fitsIn hasBlocks hasCommand timeOf isInterval rounde
 steps-answer = refl
 
 pub cycles-answer : every givesSo cycles ≡ true
-unfolding rowOf partRefusal fitsIn hasBlocks hasCommand timeOf sectorSize holdsb sectorOf cellsOf validOperation suspendable barred runsInRange heldInRange coreInRange stageInRange deviceInRange actionRefusal cycleRefusal settledOf cutOf acceptedOf
+unfolding rowOf partRefusal fitsIn hasBlocks hasCommand timeOf sectorSize holdsb sectorOf cellsOf validOperation suspendable barred runsInRange validSuspended heldInRange coreInRange stageInRange deviceInRange actionRefusal cycleRefusal settledOf cutOf acceptedOf
     cycleOf hasBits deviceOf replyNumbers
 cycles-answer = refl
 

@@ -1,6 +1,5 @@
 -- `chip::device::Core::runs_in_range` meets its contract.
 use mathlib.Core.Path.{sym, _∙_}
-use borrow.Author.Tests.{not-true, not-false}
 use Rattle.chip.specs.Device.{runsInRange}
 use borrow.Author.Needs.{needs}
 use Rattle.chip.proofs.device.Core.runs_in_range.Statement.{statement}
@@ -12,15 +11,11 @@ returns c = simp (c .if1 .taken)
 
 returns-2 : tie.Need-returns-2
 unfolding runsInRange
-returns-2 c = simp (c .before .before .if1 .left, sym (c .before .reads-cells .ensures) ∙ not-true _ (c .if2 .taken))
+returns-2 c = simp (c .before .before .before .before .if1 .left, sym (c .before .before .before .reads-cells .ensures) ∙ c .before .before .if2 .taken) (c .is-valid .ensures)
 
 returns-3 : tie.Need-returns-3
 unfolding runsInRange
-returns-3 c = simp (c .before .before .before .before .before .before .if1 .left, sym (c .before .before .before .before .before .reads-cells .ensures) ∙ not-false _ (c .before .before .before .before .if2 .left), sym (c .before .bars .ensures) ∙ c .if3 .taken)
-
-returns-4 : tie.Need-returns-4
-unfolding runsInRange
-returns-4 c = simp (c .before .before .before .before .before .before .before .if1 .left, sym (c .before .before .before .before .before .before .reads-cells .ensures) ∙ not-false _ (c .before .before .before .before .before .if2 .left), sym (c .before .before .bars .ensures) ∙ c .before .if3 .left) (c .is-valid .ensures)
+returns-3 c = simp (c .before .before .if1 .left, sym (c .before .reads-cells .ensures) ∙ c .if2 .left)
 
 pub runs-in-range-spec : {M : Type 1} → statement M
-runs-in-range-spec = tie.close (tie.spec returns (λ c κs. search needs) returns-2 (λ c κs. search needs) returns-3 (λ c κs. search needs) returns-4)
+runs-in-range-spec = tie.close (tie.spec returns (λ c κs. search needs) (λ c κs. search needs) returns-2 returns-3)

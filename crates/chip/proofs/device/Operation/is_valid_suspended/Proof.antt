@@ -1,16 +1,16 @@
 -- `chip::device::Operation::is_valid_suspended` meets its contract.
 use mathlib.Core.Path.{sym, _∙_}
-use Rattle.chip.specs.Device.{heldInRange}
+use Rattle.chip.specs.Device.{validSuspended}
 use borrow.Author.Needs.{needs}
 use Rattle.chip.proofs.device.Operation.is_valid_suspended.Statement.{statement}
 use Rattle.chip.proofs.device.Operation.is_valid_suspended.Tie as tie
 
 returns : tie.Need-returns
-unfolding heldInRange
+unfolding validSuspended
 returns c = simp (sym (c .before .before .is-suspendable .ensures) ∙ c .before .if1 .taken) (c .is-valid .ensures)
 
 returns-2 : tie.Need-returns-2
-unfolding heldInRange
+unfolding validSuspended
 returns-2 c = simp (sym (c .before .is-suspendable .ensures) ∙ c .if1 .left)
 
 pub is-valid-suspended-spec : {M : Type 1} → statement M
