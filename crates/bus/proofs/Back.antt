@@ -1,26 +1,29 @@
 -- A device crosses to C and back: its numbers are read as that device, and a refused cycle hands back the numbers as they came.
 use Prim.Native.Nat.{ℕ, zero, suc, _<_}
-use mathlib.Core.Path.{_≡_, refl}
+use mathlib.Core.Path.{_≡_, refl, _∙_}
 use mathlib.Core.Bool.{Bool, true, false}
 use mathlib.Core.List.{List}
 use native.Mathlib.Omega.{arith}
-use lib.Dec.{eqb, ltb}
+use lib.Dec.{eqb}
 use lib.ListN.{length}
-use borrow.Author.Tests.{eq-eqb, ne-eqb, eqb-false, lt-ltb, ltb-false, le-leb, lt-leb}
+use borrow.Author.Tests.{eq-eqb, ne-eqb, eqb-false, lt-ltb, lt-leb}
 use Rattle.parts.specs.Names.{WRONG-CELLS, BAD-STATE}
 use Rattle.parts.specs.Pick.{_unless_, _else_, _orElse_}
 use Rattle.parts.specs.Table.{rowOf, partRefusal}
 use Rattle.parts.proofs.Every.{pick-same}
 use Rattle.commands.specs.declared.effect.Mode.{Mode}
 use Rattle.commands.specs.declared.effect.Mode.the-variants.{ReadMode, Identification}
+use Rattle.chip.specs.declared.device.Operation.{Operation}
+use Rattle.chip.specs.declared.device.Core.{Core}
 use Rattle.chip.specs.declared.device.Device.{Device}
 use Rattle.chip.specs.declared.cycle.Action.{Action}
 use Rattle.chip.specs.declared.cycle.Cycle.{Cycle}
 use Rattle.chip.specs.Device.{stageInRange, deviceInRange}
 use Rattle.chip.specs.Cycle.{chip, afterTime, acceptedOf, cycleOf, cycleRefusal}
 use Rattle.chip.proofs.Cases.{acted-answers}
+use Rattle.bus.specs.declared.cycle.OperationNumbers.{OperationNumbers}
 use Rattle.bus.specs.declared.cycle.DeviceNumbers.{DeviceNumbers}
-use Rattle.bus.specs.Cycle.{high, modeNumber, modeAt, bitNumber, deviceNumbers, hasBits, deviceOf, noState, replyNumbers, cycledNumbers}
+use Rattle.bus.specs.Cycle.{high, modeNumber, modeAt, bitNumber, operationNumbers, deviceNumbers, hasBits, deviceOf, noState, replyNumbers, cycledNumbers}
 
 -- ---- a level: its number is read as that level
 pub level-back : (b : Bool) → high (bitNumber b) ≡ b
@@ -28,39 +31,70 @@ level-back true = refl
 level-back false = refl
 
 -- ---- the device
+-- numbers of an operation, and of a device
+abbrev operates : ℕ → ℕ → ℕ → ℕ → ℕ → OperationNumbers
+operates k a x l t = record { kind = k; address = a; «data» = x; left = l; toggle = t }
+
+abbrev numbers : ℕ → ℕ → ℕ → ℕ → OperationNumbers → OperationNumbers → DeviceNumbers
+numbers m s n t o u = record { mode = m; stage = s; recent = n; turned = t; running = o; suspended = u }
+
+-- the number of a mode, and of a bit, is one as 0 is
+module _ (s : ℕ) where
+  mode-fits : (m : Mode) (n t : ℕ) (o u : OperationNumbers) → hasBits (numbers (modeNumber m) s n t o u) ≡ hasBits (numbers 0 s n t o u)
+  unfolding hasBits
+  mode-fits ReadMode n t o u = refl
+  mode-fits Identification n t o u = refl
+
+  recent-fits : (b : Bool) (t : ℕ) (o u : OperationNumbers) → hasBits (numbers 0 s (bitNumber b) t o u) ≡ hasBits (numbers 0 s 0 t o u)
+  unfolding hasBits
+  recent-fits true t o u = refl
+  recent-fits false t o u = refl
+
+  turned-fits : (b : Bool) (o u : OperationNumbers) → hasBits (numbers 0 s 0 (bitNumber b) o u) ≡ hasBits (numbers 0 s 0 0 o u)
+  unfolding hasBits
+  turned-fits true o u = refl
+  turned-fits false o u = refl
+
+  toggle-fits : (b : Bool) (k a x l : ℕ) (u : OperationNumbers) → hasBits (numbers 0 s 0 0 (operates k a x l (bitNumber b)) u) ≡ hasBits (numbers 0 s 0 0 (operates k a x l 0) u)
+  unfolding hasBits
+  toggle-fits true k a x l u = refl
+  toggle-fits false k a x l u = refl
+
+  suspended-fits : (b : Bool) (o : Operation) (k a x l : ℕ) → hasBits (numbers 0 s 0 0 (operates (o .kind) (o .address) (o .«data») (o .left) 0) (operates k a x l (bitNumber b))) ≡ true
+  unfolding hasBits
+  suspended-fits true o k a x l = refl
+  suspended-fits false o k a x l = refl
+
+-- and each is read as what it is of
 bit-back : (b : Bool) → eqb (bitNumber b) 1 ≡ b
 bit-back true = refl
 bit-back false = refl
-
-bit-small : (b : Bool) → ltb 1 (bitNumber b) ≡ false
-bit-small true = refl
-bit-small false = refl
 
 mode-back : (m : Mode) → modeAt (modeNumber m) ≡ m
 mode-back ReadMode = refl
 mode-back Identification = refl
 
-mode-small : (m : Mode) → ltb 1 (modeNumber m) ≡ false
-mode-small ReadMode = refl
-mode-small Identification = refl
-
 -- the numbers of a device are read as that device
 pub device-back : (d : Device) → deviceOf (deviceNumbers d) ≡ d
-unfolding deviceOf hasBits
-device-back d =
-    let k = d .core in
-    rw (
-      mode-small (k .mode),
-      bit-small (k .recent),
-      bit-small (k .turned),
-      bit-small (k .running .toggle),
-      le-leb (bitNumber (k .suspended .toggle)) 1 (ltb-false 1 (bitNumber (k .suspended .toggle)) (bit-small (k .suspended .toggle))),
-      mode-back (k .mode),
-      bit-back (k .recent),
-      bit-back (k .turned),
-      bit-back (k .running .toggle),
-      bit-back (k .suspended .toggle),
-    )
+unfolding deviceOf
+device-back d = rw (has-bits, mode-back (k .mode), bit-back (k .recent), bit-back (k .turned), bit-back (o .toggle), bit-back (u .toggle))
+  where
+    k : Core
+    k = d .core
+
+    o : Operation
+    o = k .running
+
+    u : Operation
+    u = k .suspended
+
+    has-bits : hasBits (deviceNumbers d) ≡ true
+    has-bits =
+        mode-fits (d .stage) (k .mode) (bitNumber (k .recent)) (bitNumber (k .turned)) (operationNumbers o) (operationNumbers u)
+        ∙ (recent-fits (d .stage) (k .recent) (bitNumber (k .turned)) (operationNumbers o) (operationNumbers u)
+        ∙ (turned-fits (d .stage) (k .turned) (operationNumbers o) (operationNumbers u)
+        ∙ (toggle-fits (d .stage) (o .toggle) (o .kind) (o .address) (o .«data») (o .left) (operationNumbers u)
+        ∙ suspended-fits (d .stage) (u .toggle) o (u .kind) (u .address) (u .«data») (u .left))))
 
 -- a mode, a recent completion, a turned bit 2 or a toggle above 1 is no state
 module _ (n : DeviceNumbers) where
