@@ -1,5 +1,5 @@
 -- What a cycle does, case by case: callers cite these laws and not the definition's text.
-use Prim.Native.Nat.{ℕ, _+_, _-_, _*_, _/_, _%_, _^_, _≤_, _<_}
+use Prim.Native.Nat.{ℕ, _-_, _^_, _≤_, _<_}
 use mathlib.Core.Path.{_≡_, refl, sym, ap, _∙_}
 use mathlib.Core.Bool.{Bool, true, false}
 use mathlib.Core.List.{List}
@@ -9,7 +9,6 @@ use lib.Dec.{eqb}
 use lib.ListN.{length, getD}
 use lib.Pow.{pow-mono, pow-pos}
 use lib.Bits.{xor-lt}
-use Rattle.parts.specs.Pick.{pick}
 use Rattle.parts.specs.Width.{valueOf, fitsIn}
 use Rattle.parts.specs.Table.{rowOf, partRefusal}
 use Rattle.parts.specs.declared.table.Row.{Row}
@@ -28,10 +27,10 @@ use Rattle.chip.specs.Device.{withLeft, toggled, withRunning, withRecent
 use Rattle.chip.specs.Operation.{cellsOf, completeOn}
 use Rattle.commands.specs.Commands.{effectOf}
 use Rattle.chip.specs.Sequence.{ignored, passedOver, resuming, afterEffect, writtenOf}
-use Rattle.chip.specs.Cycle.{Chip, chip, cycle, outcome, reply, settled, settledOf, tells, bit2, turnedBy, status, modeShows, veils, shownOf, outputsOf, readOf, Outcome, actedOf, actionRefusal, cycleRefusal, acceptedOf, cycleOf}
+use Rattle.chip.specs.Cycle.{Chip, chip, cycle, outcome, reply, settled, settledOf, tells, turnedBy, status, modeShows, veils, shownOf, outputsOf, readOf, Outcome, actedOf, actionRefusal, cycleRefusal, acceptedOf, cycleOf}
 use Rattle.chip.specs.Trace.{after, effectStarts, startedBy}
 use Rattle.chip.proofs.Bits.{bit7-le, bit6-le, bit2-le}
-use Rattle.chip.proofs.Accepted.{Accepted, accepting, Valid, valid-range, rests-range, rest-range, in-range, stage-none, stage-rests}
+use Rattle.chip.proofs.Accepted.{Accepted, accepting, Valid, free-alone, valid-range, rests-range, rest-range, in-range, stage-none, stage-rests}
 use Rattle.chip.proofs.Idle.{some-time-ages, idle-rests, idle-free, idle-old, idle-reads, idle-ages}
 
 -- ---- accepted or refused
@@ -194,8 +193,7 @@ module _ (k : Core) (n : held k ≡ false) where
   none-resumed s x = rw n
 
   pub none-barred : (r : Row) (c a : ℕ) → barred r (k .suspended) c a ≡ false
-  unfolding barred
-  none-barred r c a = rw n
+  none-barred r c a = free-alone r (k .suspended) c a n
 
   pub only-protected : (r : Row) (wp : Bool) (c a : ℕ) → passedOver r k wp c a ≡ ignored r wp c a
   unfolding passedOver

@@ -31,7 +31,7 @@ use Rattle.chip.specs.Cycle.{cycle, Chip, chip, Outcome, outcome, Settle
 use Rattle.chip.specs.Trace.{after, effectStarts, actionStarts, uncutAction}
 use Rattle.chip.specs.Recent.{DifferButSeven, recentOnce, later}
 use Rattle.chip.proofs.Accepted.{Accepted, accepted, accepting, busy-valid, ranges}
-use Rattle.chip.proofs.Idle.{idle-is, some-time-ages, idle-old}
+use Rattle.chip.proofs.Idle.{some-time-ages}
 use Rattle.chip.proofs.Cases.{accepted-cycle, rests, read-at-rest, completes}
 use Rattle.chip.proofs.Outputs.{differ-so}
 use Rattle.chip.proofs.Sampled.{twice, sampled}

@@ -5,9 +5,9 @@ use mathlib.Core.Path.{_≡_, refl, sym, ap, _∙_}
 use mathlib.Core.Bool.{Bool, true, false, not}
 use mathlib.Core.List.{List, [], _∷_, _++_}
 use native.Mathlib.Omega.{arith}
-use borrow.Author.Tests.{ltb-false, lt-ltb, le-ltb, eq-eqb, eqb-true}
+use borrow.Author.Tests.{lt-ltb, le-ltb, eq-eqb, eqb-true}
 use lib.Dec.{eqb, ltb}
-use lib.ListN.{length, getD}
+use lib.ListN.{length}
 use Rattle.parts.specs.Pick.{pick}
 use Rattle.parts.specs.Span.{holdsb}
 use Rattle.parts.specs.Table.{rowOf}
@@ -24,7 +24,7 @@ use Rattle.chip.specs.declared.cycle.Action.{Action}
 use Rattle.chip.specs.declared.cycle.Action.the-variants.{Read, Write, Idle, Cut}
 use Rattle.chip.specs.declared.cycle.Cycle.{Cycle}
 use Rattle.chip.specs.declared.cycle.Shown.{Shown}
-use Rattle.chip.specs.Device.{noOperation, withLeft, toggled, restarted, pending, core, withRunning, agedBy, suspend, resume, busy, held, device, withCore, suspendable, validSuspended, coreInRange, deviceInRange}
+use Rattle.chip.specs.Device.{noOperation, withLeft, toggled, restarted, pending, core, withRunning, agedBy, suspend, resume, busy, held, device, withCore, suspendable, deviceInRange}
 use Rattle.chip.specs.Operation.{cellsOf}
 use Rattle.chip.specs.Sequence.{ignored, passedOver, suspending, resuming, afterEffect, writtenOf}
 use Rattle.chip.specs.Cycle.{cycle, Chip, chip, Outcome, Settled, settledOf, afterTime, bit7, bit6, tells, turnedBy, status, modeShows, shownOf, outputsOf, showing, veils, readOf, actedOf, acceptedOf, cycleRefusal, cycleOf}
@@ -35,7 +35,7 @@ use Rattle.chip.proofs.Settled.{time-holds, after-time-range}
 use Rattle.chip.proofs.Sampled.{twice, sampled, heeded}
 use Rattle.chip.proofs.Apart.{beside, alone, untouched, one-cell}
 use Rattle.chip.proofs.Started.{all-append}
-use Rattle.chip.proofs.Cases.{accepted-cycle, rests, unveiled, only-protected}
+use Rattle.chip.proofs.Cases.{accepted-cycle, unveiled, only-protected}
 
 all-parts : (P : Operation → Type 0) (os ps : List Operation) → All P (os ++ ps) → All P os × All P ps
 all-parts P [] ps a = (tt, a)

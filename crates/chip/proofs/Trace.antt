@@ -25,7 +25,6 @@ use Rattle.chip.specs.declared.cycle.Shown.{Shown}
 use Rattle.chip.specs.Device.{busyWith, suspend, resume, busy, held, barred, device, withCore, idle}
 use Rattle.chip.specs.Recent.{later}
 use Rattle.chip.specs.Operation.{cellsOf, completeOn}
-use Rattle.commands.specs.Commands.{effectOf}
 use Rattle.chip.specs.Sequence.{newOperation, suspending, resuming, afterEffect, writtenOf}
 use Rattle.chip.specs.Cycle.{Chip, chip, Outcome, Settled, settledOf, afterTime, readOf, actedOf, cycleRefusal, acceptedOf, cycleOf}
 use Rattle.chip.specs.Trace.{leaves, after, play, effectStarts, actionStarts, startedBy, startedIn, completeAll, coming, uncutAction, uncut}

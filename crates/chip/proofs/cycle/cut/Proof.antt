@@ -1,7 +1,5 @@
 -- `chip::cycle::cut` meets its contract.
-use mathlib.Core.Path.{sym, _∙_, ap}
-use lib.ListN.{length}
-use Rattle.chip.specs.Cycle.{cutOf, cutShort}
+use Rattle.chip.specs.Cycle.{cutOf}
 use Rattle.chip.proofs.Settled.{cut-length}
 use borrow.Author.Needs.{needs}
 use Rattle.chip.proofs.cycle.cut.Statement.{statement}
