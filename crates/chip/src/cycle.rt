@@ -23,7 +23,7 @@ ghost use mathlib.Core.Path.{_≡_};
 ghost use Prim.Native.Nat.{_+_, _<_, _≤_};
 ghost use lib.ListN.{length};
 ghost use mathlib.Core.Bool.{true};
-ghost use Rattle.chip.specs.Cycle.{actedOf, actionRefusal, bit2, bit6, bit7, chip, cutOf, cutShort, cycleOf, cycleRefusalOn, identity, inverted, modeShows, outputsOf, readOf, settledOf, showing, status, tells, turnedBy, veil, veils};
+ghost use Rattle.chip.specs.Cycle.{actedOf, actionRefusal, bit2, bit6, bit7, chip, cutOf, cutShort, cycleOf, cycleRefusalOn, identity, inverted, modeShows, outputsOf, readOf, settledOf, showing, shownOf, status, tells, turnedBy, veil, veils};
 ghost use Rattle.chip.specs.Device.{pending, toggled, withRunning};
 ghost use Rattle.chip.specs.Operation.{cellsOf};
 ghost use Rattle.chip.specs.Needs.{InWords, RunsInside};
@@ -259,6 +259,32 @@ fn look_veiled(row: Row, core: Core) -> Shown
     }
 }
 
+// A read at rest of an address that is not veiled.
+fn look_plainly(cells: &[u16], row: Row, core: Core, a: u32) -> Shown
+    requires { ⌜ InWords row ⌝ }
+    requires { ⌜ a < length (now cells) ⌝ }
+    ensures { λ r. ⌜ r ≡ showing (outputsOf (row .width) (core .recent) (modeShows row (now (cells .entry)) (core .mode) a)) core ⌝ }
+{
+    let mode = core.mode;
+    let v = mode_shows(cells, row, mode, a);
+    Shown {
+        value: outputs(row.width, core.recent, v),
+        core,
+    }
+}
+
+// A read at rest while an erase is suspended.
+fn look_held(cells: &[u16], row: Row, core: Core, a: u32) -> Shown
+    requires { ⌜ InWords row ⌝ }
+    requires { ⌜ a < length (now cells) ⌝ }
+    ensures { λ r. ⌜ r ≡ showing (outputsOf (row .width) (core .recent) (shownOf row (now (cells .entry)) core a)) (turnedBy core (veils row core a)) ⌝ }
+{
+    if is_veiled(row, core, a) {
+        return look_veiled(row, core);
+    }
+    look_plainly(cells, row, core, a)
+}
+
 // A read, after its time has passed.
 fn look(cells: &[u16], row: Row, core: Core, a: u32) -> Shown
     requires { ⌜ InWords row ⌝ }
@@ -268,15 +294,10 @@ fn look(cells: &[u16], row: Row, core: Core, a: u32) -> Shown
     if core.is_busy() {
         return look_busy(row, core, a);
     }
-    if is_veiled(row, core, a) {
-        return look_veiled(row, core);
+    if core.is_held() {
+        return look_held(cells, row, core, a);
     }
-    let mode = core.mode;
-    let v = mode_shows(cells, row, mode, a);
-    Shown {
-        value: outputs(row.width, core.recent, v),
-        core,
-    }
+    look_plainly(cells, row, core, a)
 }
 
 // What a power cut leaves of an operation, where it is pending.

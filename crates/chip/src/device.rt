@@ -14,7 +14,8 @@ ghost use Rattle.parts.specs.Pick.{pick};
 ghost use Rattle.chip.specs.Device.{agedBy, atRest, barred, busy, busyWith, deviceInRange, freshDevice, held, heldInRange, inMode, noOperation, pending, reads, restarted, resume, runsInRange, suspend, suspendable, toggled, validOperation, validSuspended, withCore, withLeft, withRecent, withRunning, withTurned};
 
 // An operation: its command's number, address and data, the µs left, and what bit 6 shows at the
-// next busy read. It is pending exactly while time is left.
+// next busy read. It is pending exactly while time is left. The order of its fields is that in which a
+// job took the fewest instructions (docs/MEASURED.md).
 pub struct Operation {
     pub kind: u32,
     pub left: u32,
