@@ -1,5 +1,5 @@
 -- Document 02, Wish 2: while an erase is suspended and not resumed its time stands still, no cell of its range changes, and elsewhere a cell only by a program;
--- resumed, it takes what was left. On a part that cannot suspend nothing is as it was not before.
+-- resumed, it takes what was left. On a part that cannot suspend all is as it was before the wish.
 use Prim.Native.Nat.{ℕ, _+_, _-_, _*_, _%_, _≤_, _<_}
 use mathlib.Core.Path.{_≡_, refl, sym, ap, _∙_}
 use mathlib.Core.Bool.{Bool, true, false, not}
