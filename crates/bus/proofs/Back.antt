@@ -13,14 +13,14 @@ use Rattle.parts.specs.Table.{rowOf, partRefusal}
 use Rattle.parts.proofs.Every.{pick-same}
 use Rattle.commands.specs.declared.effect.Mode.{Mode}
 use Rattle.commands.specs.declared.effect.Mode.the-variants.{ReadMode, Identification}
-use Rattle.chip.specs.declared.device.Operation.{Operation}
-use Rattle.chip.specs.declared.device.Core.{Core}
-use Rattle.chip.specs.declared.device.Device.{Device}
-use Rattle.chip.specs.declared.cycle.Action.{Action}
-use Rattle.chip.specs.declared.cycle.Cycle.{Cycle}
-use Rattle.chip.specs.Device.{stageInRange, deviceInRange}
-use Rattle.chip.specs.Cycle.{chip, afterTime, acceptedOf, cycleOf, cycleRefusal}
-use Rattle.chip.proofs.Cases.{acted-answers}
+use Rattle.device.specs.declared.state.Operation.{Operation}
+use Rattle.device.specs.declared.state.Core.{Core}
+use Rattle.device.specs.declared.state.Device.{Device}
+use Rattle.device.specs.declared.cycle.Action.{Action}
+use Rattle.device.specs.declared.cycle.Cycle.{Cycle}
+use Rattle.device.specs.Device.{stageInRange, deviceInRange}
+use Rattle.device.specs.Cycle.{chip, afterTime, acceptedOf, cycleOf, cycleRefusal}
+use Rattle.device.proofs.Cases.{acted-answers}
 use Rattle.bus.specs.declared.cycle.OperationNumbers.{OperationNumbers}
 use Rattle.bus.specs.declared.cycle.DeviceNumbers.{DeviceNumbers}
 use Rattle.bus.specs.Cycle.{high, modeNumber, modeAt, bitNumber, operationNumbers, deviceNumbers, hasBits, deviceOf, noState, replyNumbers, cycledNumbers}

@@ -6,12 +6,12 @@ use lib.Dec.{eqb, leb, ltb}
 use Rattle.parts.specs.Pick.{pick, _when_, _unless_, _else_}
 use Rattle.commands.specs.declared.effect.Mode.{Mode}
 use Rattle.commands.specs.declared.effect.Mode.the-variants.{ReadMode, Identification}
-use Rattle.chip.specs.declared.device.Operation.{Operation}
-use Rattle.chip.specs.declared.device.Device.{Device}
-use Rattle.chip.specs.declared.cycle.Action.{Action}
-use Rattle.chip.specs.declared.cycle.Reply.{Reply}
-use Rattle.chip.specs.Device.{operation, core, device, freshCore}
-use Rattle.chip.specs.Cycle.{Outcome, cycle, cycleOf}
+use Rattle.device.specs.declared.state.Operation.{Operation}
+use Rattle.device.specs.declared.state.Device.{Device}
+use Rattle.device.specs.declared.cycle.Action.{Action}
+use Rattle.device.specs.declared.cycle.Reply.{Reply}
+use Rattle.device.specs.Device.{operation, core, device, freshCore}
+use Rattle.device.specs.Cycle.{Outcome, cycle, cycleOf}
 use Rattle.bus.specs.declared.cycle.OperationNumbers.{OperationNumbers}
 use Rattle.bus.specs.declared.cycle.DeviceNumbers.{DeviceNumbers}
 use Rattle.bus.specs.declared.cycle.ReplyNumbers.{ReplyNumbers}

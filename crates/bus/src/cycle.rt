@@ -1,11 +1,11 @@
 // The bus cycle on a device as plain numbers. Any numbers may be given.
-use chip::Action;
-use chip::Core;
-use chip::Cycle;
-use chip::Device;
-use chip::Operation;
-use chip::Reply;
 use commands::Mode;
+use device::Action;
+use device::Core;
+use device::Cycle;
+use device::Device;
+use device::Operation;
+use device::Reply;
 ghost use mathlib.Core.Path.{_≡_};
 ghost use Rattle.bus.specs.Cycle.{bitNumber, cycledOf, deviceNumbers, deviceOf, hasBits, modeAt, modeNumber, noState, operationNumbers, operationOf, replyNumbers};
 
@@ -81,7 +81,7 @@ fn bit_number(bit: bool) -> u32
 fn no_state() -> Device
     ensures { λ r. ⌜ r ≡ noState ⌝ }
 {
-    let fresh = chip::fresh();
+    let fresh = device::fresh();
     let core = fresh.core;
     Device {
         core,

@@ -1,14 +1,28 @@
 // One bus cycle: refusals in order; then time passes; then the cycle acts.
-use crate::Core;
-use crate::Device;
-use crate::Operation;
-use crate::device::fresh;
-use crate::device::reads_cells;
 use crate::operation::cells_of;
 use crate::operation::complete;
 use crate::operation::cut_short;
 use crate::sequence::written;
+use crate::state::aged_by;
+use crate::state::at_rest;
+use crate::state::in_range;
+use crate::state::is_busy;
+use crate::state::is_held;
+use crate::state::is_pending;
+use crate::state::reads_cells;
+use crate::state::toggled;
+use crate::state::with_core;
+use crate::state::with_left;
+use crate::state::with_running;
+use crate::state::with_turned;
 use commands::Mode;
+use device::Action;
+use device::Core;
+use device::Cycle;
+use device::Device;
+use device::Operation;
+use device::Reply;
+use device::Shown;
 use parts::Found;
 use parts::Row;
 use parts::names::BAD_STATE;
@@ -23,38 +37,10 @@ ghost use mathlib.Core.Path.{_≡_};
 ghost use Prim.Native.Nat.{_+_, _<_, _≤_};
 ghost use lib.ListN.{length};
 ghost use mathlib.Core.Bool.{true};
-ghost use Rattle.chip.specs.Cycle.{actedOf, actionRefusal, bit2, bit6, bit7, chip, cutOf, cutShort, cycleOf, cycleRefusalOn, identity, inverted, modeShows, outputsOf, readOf, settledOf, showing, shownOf, status, tells, turnedBy, veil, veils};
-ghost use Rattle.chip.specs.Device.{pending, toggled, withRunning};
-ghost use Rattle.chip.specs.Operation.{cellsOf};
-ghost use Rattle.chip.specs.Needs.{InWords, RunsInside};
-
-// What a cycle does: read an address, write an address with data, nothing, or a power cut with a scar.
-pub enum Action {
-    Read(u32),
-    Write(u32, u16),
-    Idle,
-    Cut(u16),
-}
-
-// A cycle: the µs since the last one, the WP# level (true is high), and what it does.
-pub struct Cycle {
-    pub elapsed: u32,
-    pub wp: bool,
-    pub action: Action,
-}
-
-// The answer, 0 or a refusal; the value read; the device afterwards.
-pub struct Reply {
-    pub answer: u32,
-    pub value: u16,
-    pub device: Device,
-}
-
-// What a read shows, and the core after it.
-pub(crate) struct Shown {
-    pub(crate) value: u16,
-    pub(crate) core: Core,
-}
+ghost use Rattle.device.specs.Cycle.{actedOf, actionRefusal, bit2, bit6, bit7, chip, cutOf, cutShort, cycleOf, cycleRefusalOn, identity, inverted, modeShows, outputsOf, readOf, settledOf, showing, shownOf, status, tells, turnedBy, veil, veils};
+ghost use Rattle.device.specs.Device.{pending, toggled, withRunning};
+ghost use Rattle.device.specs.Operation.{cellsOf};
+ghost use Rattle.device.specs.Needs.{InWords, RunsInside};
 
 // The refusal of an address and data to write.
 fn write_refusal(row: Row, a: u32, x: u16) -> u32
@@ -103,7 +89,7 @@ fn cycle_refusal(found: Found, lent: usize, d: Device, action: Action) -> u32
     if lent != row.cells as usize {
         return WRONG_CELLS;
     }
-    if !d.in_range(row) {
+    if !in_range(row, d) {
         return BAD_STATE;
     }
     action_refusal(row, action)
@@ -118,13 +104,13 @@ fn settle(cells: &mut [u16], row: Row, core: Core, elapsed: u32) -> Core
     let o = core.running;
     let left = o.left;
     if left <= 0 {
-        return core.aged_by(elapsed);
+        return aged_by(core, elapsed);
     }
     if elapsed < left {
-        return core.with_running(o.with_left(left - elapsed));
+        return with_running(core, with_left(o, left - elapsed));
     }
     complete(&mut *cells, row, o);
-    core.at_rest(elapsed == left)
+    at_rest(core, elapsed == left)
 }
 
 // Bit 7 while busy.
@@ -177,11 +163,11 @@ fn look_busy(row: Row, core: Core, a: u32) -> Shown
 {
     let o = core.running;
     let value = bit_7(o) * BIT_7 + bit_6(o) * BIT_6;
-    let read = core.with_running(o.toggled());
+    let read = with_running(core, toggled(o));
     if tells_of(row, o, a) {
         return Shown {
             value: value + bit_2(core) * BIT_2,
-            core: read.with_turned(!core.turned),
+            core: with_turned(read, !core.turned),
         };
     }
     Shown { value, core: read }
@@ -225,7 +211,7 @@ fn mode_shows(cells: &[u16], row: Row, mode: Mode, a: u32) -> u16
 fn is_veiled(row: Row, core: Core, a: u32) -> bool
     ensures { λ r. ⌜ r ≡ veils row core a ⌝ }
 {
-    if !core.is_held() {
+    if !is_held(core) {
         return false;
     }
     let mode = core.mode;
@@ -255,7 +241,7 @@ fn look_veiled(row: Row, core: Core) -> Shown
     let v = BIT_7 + BIT_6 + bit_2(core) * BIT_2;
     Shown {
         value: outputs(row.width, core.recent, v),
-        core: core.with_turned(!core.turned),
+        core: with_turned(core, !core.turned),
     }
 }
 
@@ -291,10 +277,10 @@ fn look(cells: &[u16], row: Row, core: Core, a: u32) -> Shown
     requires { ⌜ a < length (now cells) ⌝ }
     ensures { λ r. ⌜ r ≡ readOf row (now (cells .entry)) core a ⌝ }
 {
-    if core.is_busy() {
+    if is_busy(core) {
         return look_busy(row, core, a);
     }
-    if core.is_held() {
+    if is_held(core) {
         return look_held(cells, row, core, a);
     }
     look_plainly(cells, row, core, a)
@@ -305,7 +291,7 @@ fn cut_one(cells: &mut [u16], row: Row, o: Operation, scar: u16)
     requires { ⌜ (pending o ≡ true → cellsOf row o .first + cellsOf row o .count ≤ length (now cells)) ⌝ }
     ensures { λ _. ⌜ now (cells .exit) ≡ cutShort row o scar (now (cells .entry)) ⌝ }
 {
-    if o.is_pending() {
+    if is_pending(o) {
         cut_short(cells, row, o, scar);
     }
 }
@@ -330,7 +316,7 @@ fn read_cycle(cells: &[u16], row: Row, d: Device, a: u32) -> Reply
     Reply {
         answer: 0,
         value: s.value,
-        device: d.with_core(core),
+        device: with_core(d, core),
     }
 }
 
@@ -358,7 +344,7 @@ fn act(cells: &mut [u16], row: Row, d: Device, wp: bool, action: Action) -> Repl
             Reply {
                 answer: 0,
                 value: 0,
-                device: fresh(),
+                device: device::fresh(),
             }
         }
     }
@@ -380,5 +366,5 @@ pub fn bus_cycle(part: u32, cells: &mut [u16], device: Device, cycle: Cycle) -> 
     }
     let row = found.row;
     let core = settle(&mut *cells, row, device.core, cycle.elapsed);
-    act(&mut *cells, row, device.with_core(core), cycle.wp, action)
+    act(&mut *cells, row, with_core(device, core), cycle.wp, action)
 }

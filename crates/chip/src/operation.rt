@@ -1,5 +1,5 @@
 // What an operation leaves on the cells, finished or cut short.
-use crate::Operation;
+use device::Operation;
 use parts::Row;
 use parts::Span;
 use parts::names::BLOCK;
@@ -11,8 +11,8 @@ ghost use Prim.Native.Nat.{_+_, _≤_};
 ghost use lib.ListN.{length};
 ghost use lib.Bits.{bitOr};
 ghost use Rattle.parts.specs.Width.{valueOf};
-ghost use Rattle.chip.specs.Operation.{cellsOf, completeOn, cutOn};
-ghost use Rattle.chip.specs.Needs.{InWords};
+ghost use Rattle.device.specs.Operation.{cellsOf, completeOn, cutOn};
+ghost use Rattle.device.specs.Needs.{InWords};
 
 // The cells of an operation.
 pub(crate) fn cells_of(row: Row, o: Operation) -> Span

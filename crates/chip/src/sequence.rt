@@ -1,17 +1,24 @@
 // A write to a device: it suspends or resumes an erase, or has an effect.
-use crate::Core;
-use crate::Device;
-use crate::Operation;
-use crate::device::is_suspendable;
+use crate::state::bars;
+use crate::state::busy_with;
+use crate::state::in_mode;
+use crate::state::is_busy;
+use crate::state::is_held;
+use crate::state::is_suspendable;
+use crate::state::resume;
+use crate::state::suspend;
 use commands::Effect;
 use commands::Mode;
+use device::Core;
+use device::Device;
+use device::Operation;
 use parts::Row;
 use parts::names::CHIP;
 use parts::names::NONE_BEGUN;
 use parts::names::RESUME_CODE;
 use parts::names::SUSPEND_CODE;
 ghost use mathlib.Core.Path.{_≡_};
-ghost use Rattle.chip.specs.Sequence.{afterEffect, coreAfter, ignored, passedOver, resuming, suspending, writtenOf};
+ghost use Rattle.device.specs.Sequence.{afterEffect, coreAfter, ignored, passedOver, resuming, suspending, writtenOf};
 
 // Whether WP# protects from a command at an address.
 fn is_ignored(row: Row, wp: bool, command: u32, a: u32) -> bool
@@ -32,7 +39,7 @@ fn is_passed_over(row: Row, core: Core, wp: bool, command: u32, a: u32) -> bool
     ensures { λ r. ⌜ r ≡ passedOver row core wp command a ⌝ }
 {
     let s = core.suspended;
-    if s.bars(row, command, a) {
+    if bars(row, s, command, a) {
         return true;
     }
     is_ignored(row, wp, command, a)
@@ -43,7 +50,7 @@ fn start(row: Row, core: Core, wp: bool, command: u32, a: u32, x: u16) -> Core
     ensures { λ r. ⌜ r ≡ coreAfter row core wp a x (Effect.Starts command) ⌝ }
 {
     if is_passed_over(row, core, wp, command, a) {
-        return core.in_mode(Mode::ReadMode);
+        return in_mode(core, Mode::ReadMode);
     }
     let operation = Operation {
         kind: command,
@@ -52,7 +59,7 @@ fn start(row: Row, core: Core, wp: bool, command: u32, a: u32, x: u16) -> Core
         left: row.time(command),
         toggle: true,
     };
-    core.busy_with(operation)
+    busy_with(core, operation)
 }
 
 // The device after an effect.
@@ -66,7 +73,7 @@ fn after_effect(row: Row, core: Core, wp: bool, a: u32, x: u16, effect: Effect) 
             stage: NONE_BEGUN,
         },
         Effect::Enters(mode) => Device {
-            core: core.in_mode(mode),
+            core: in_mode(core, mode),
             stage: NONE_BEGUN,
         },
     }
@@ -87,7 +94,7 @@ fn suspends(row: Row, core: Core, x: u16) -> bool
 fn resumes(core: Core, stage: u32, x: u16) -> bool
     ensures { λ r. ⌜ r ≡ resuming core stage x ⌝ }
 {
-    if !core.is_held() {
+    if !is_held(core) {
         return false;
     }
     if stage == NONE_BEGUN {
@@ -102,10 +109,10 @@ pub(crate) fn written(row: Row, d: Device, wp: bool, a: u32, x: u16) -> Device
 {
     let core = d.core;
     let stage = d.stage;
-    if core.is_busy() {
+    if is_busy(core) {
         if suspends(row, core, x) {
             return Device {
-                core: core.suspend(),
+                core: suspend(core),
                 stage: NONE_BEGUN,
             };
         }
@@ -113,7 +120,7 @@ pub(crate) fn written(row: Row, d: Device, wp: bool, a: u32, x: u16) -> Device
     }
     if resumes(core, stage, x) {
         return Device {
-            core: core.resume(),
+            core: resume(core),
             stage: NONE_BEGUN,
         };
     }

@@ -1,8 +1,8 @@
 // The program `cycles`: programs random words over the whole of a blank part 8 by bare bus cycles, and prints how many were
 // sent and the sum of what they answered and showed. How long it takes is measured from outside.
-use chip::Action;
-use chip::Cycle;
-use chip::Device;
+use device::Action;
+use device::Cycle;
+use device::Device;
 ghost use mathlib.Core.Path.{_≡_};
 ghost use lib.ListN.{length};
 
@@ -82,7 +82,7 @@ fn program(cells: &mut [u16], p: Played, address: u32, data: u16) -> Played {
 
 // Programs a random word at each address of part 8.
 fn play(cells: &mut [u16]) -> Played {
-    let device = chip::fresh();
+    let device = device::fresh();
     let mut played = Played {
         device,
         sent: 0,

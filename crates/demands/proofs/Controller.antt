@@ -4,8 +4,8 @@ use mathlib.Core.Path.{_≡_, sym, ap, ap₂, _∙_}
 use mathlib.Core.Bool.{false}
 use mathlib.Core.List.{List}
 use lib.Dec.{ltb}
-use Rattle.chip.specs.Device.{freshDevice}
-use Rattle.chip.specs.Cycle.{Outcome, cycleOf}
+use Rattle.device.specs.Device.{freshDevice}
+use Rattle.device.specs.Cycle.{Outcome, cycleOf}
 use Rattle.driver.specs.Machine.{startOf, stepOf}
 use Rattle.bus.specs.Cycle.{deviceOf, cycledNumbers}
 use Rattle.bus.proofs.Back.{device-back}

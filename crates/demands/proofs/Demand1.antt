@@ -15,8 +15,8 @@ use Rattle.parts.specs.declared.table.Row.{Row}
 use Rattle.table.specs.declared.figure.Figure.{Figure}
 use Rattle.parts.specs.declared.table.Found.{Found}
 use Rattle.parts.proofs.Every.{apart, split}
-use Rattle.chip.specs.Cycle.{chip, Outcome, afterTime, acceptedOf, cycleOf}
-use Rattle.chip.proofs.Cases.{acted-answers}
+use Rattle.device.specs.Cycle.{chip, Outcome, afterTime, acceptedOf, cycleOf}
+use Rattle.device.proofs.Cases.{acted-answers}
 use Rattle.driver.specs.declared.machine.Started.{Started}
 use Rattle.driver.specs.declared.writes.Writes.{Writes}
 use Rattle.driver.specs.declared.writes.Kth.{Kth}

@@ -15,20 +15,20 @@ use Rattle.parts.specs.Table.{rowOf}
 use Rattle.parts.specs.declared.table.Row.{Row}
 use Rattle.parts.proofs.Every.{apart}
 use Rattle.parts.proofs.Sound.{width-least, suspends-on}
-use Rattle.chip.specs.declared.device.Device.{Device}
-use Rattle.chip.specs.declared.device.Operation.{Operation}
-use Rattle.chip.specs.declared.cycle.Action.the-variants.{Read}
-use Rattle.chip.specs.declared.cycle.Cycle.{Cycle}
-use Rattle.chip.specs.declared.cycle.Reply.{Reply}
-use Rattle.chip.specs.Device.{busy}
-use Rattle.chip.specs.Cycle.{cycle, Chip, chip, Outcome, veils, cycleRefusal, acceptedOf, cycleOf}
-use Rattle.chip.specs.Trace.{after, play, startedIn, uncutAction}
-use Rattle.chip.specs.Recent.{DifferButSeven, recentOnce}
-use Rattle.chip.proofs.Accepted.{accepted}
-use Rattle.chip.proofs.Recent.{recent-exactly, word-later, word-after-completion}
-use Rattle.chip.proofs.Suspended as Suspended
-use Rattle.chip.proofs.Suspended.{suspended-is, stands, resumed-is, never-held}
-use Rattle.chip.proofs.Started.{started-append, reads-start, one-read-starts}
+use Rattle.device.specs.declared.state.Device.{Device}
+use Rattle.device.specs.declared.state.Operation.{Operation}
+use Rattle.device.specs.declared.cycle.Action.the-variants.{Read}
+use Rattle.device.specs.declared.cycle.Cycle.{Cycle}
+use Rattle.device.specs.declared.cycle.Reply.{Reply}
+use Rattle.device.specs.Device.{busy}
+use Rattle.device.specs.Cycle.{cycle, Chip, chip, Outcome, veils, cycleRefusal, acceptedOf, cycleOf}
+use Rattle.device.specs.Trace.{after, play, startedIn, uncutAction}
+use Rattle.device.specs.Recent.{DifferButSeven, recentOnce}
+use Rattle.device.proofs.Accepted.{accepted}
+use Rattle.device.proofs.Recent.{recent-exactly, word-later, word-after-completion}
+use Rattle.device.proofs.Suspended as Suspended
+use Rattle.device.proofs.Suspended.{suspended-is, stands, resumed-is, never-held}
+use Rattle.device.proofs.Started.{started-append, reads-start, one-read-starts}
 use Rattle.driver.specs.declared.machine.Driver.{Driver}
 use Rattle.driver.specs.declared.machine.Started.{Started}
 use Rattle.driver.specs.declared.machine.Step.{Step}

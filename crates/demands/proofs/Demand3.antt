@@ -5,8 +5,8 @@ use native.Mathlib.Omega.{arith}
 use lib.Dec.{ltb}
 use lib.ListN.{length}
 use Rattle.parts.specs.Pick.{pick}
-use Rattle.chip.specs.Device.{idle}
-use Rattle.chip.proofs.Idle.{idle-later}
+use Rattle.device.specs.Device.{idle}
+use Rattle.device.proofs.Idle.{idle-later}
 use Rattle.job.specs.Bill.{Loaded, loadOf, refusedBill}
 use Rattle.jobfile.specs.JobFile.{malformed}
 use Rattle.billing.specs.File.{billOfFile}

@@ -13,14 +13,14 @@ use Rattle.parts.specs.Table.{rowOf, partRefusal}
 use Rattle.parts.specs.Span.{holdsb, hasBlocks, sectorOf, blockOf, protectedOf}
 use Rattle.parts.specs.Time.{hasCommand, timeOf, isInterval, roundedUp}
 use Rattle.parts.proofs.Every.{every, both}
-use Rattle.chip.specs.declared.device.Device.{Device}
-use Rattle.chip.specs.declared.cycle.Cycle.{Cycle}
-use Rattle.chip.specs.Device.{freshDevice, suspendable, barred, validOperation, runsInRange, validSuspended, heldInRange, coreInRange, stageInRange, deviceInRange}
-use Rattle.chip.specs.Operation.{cellsOf, completeOn, cutOn}
+use Rattle.device.specs.declared.state.Device.{Device}
+use Rattle.device.specs.declared.cycle.Cycle.{Cycle}
+use Rattle.device.specs.Device.{freshDevice, suspendable, barred, validOperation, runsInRange, validSuspended, heldInRange, coreInRange, stageInRange, deviceInRange}
+use Rattle.device.specs.Operation.{cellsOf, completeOn, cutOn}
 use Rattle.commands.specs.Commands.{effectOf}
-use Rattle.chip.specs.Sequence.{ignored, passedOver, writtenOf}
-use Rattle.chip.specs.Cycle.{Chip, chip, Outcome, reply, actionRefusal, cycleRefusal, settledOf, tells, veils, readOf, cutOf, acceptedOf, cycleOf}
-use Rattle.chip.specs.Trace.{leaves, after}
+use Rattle.device.specs.Sequence.{ignored, passedOver, writtenOf}
+use Rattle.device.specs.Cycle.{Chip, chip, Outcome, reply, actionRefusal, cycleRefusal, settledOf, tells, veils, readOf, cutOf, acceptedOf, cycleOf}
+use Rattle.device.specs.Trace.{leaves, after}
 use Rattle.driver.specs.Writes.{lastWrite}
 use Rattle.values.specs.Total.{totalOf}
 use Rattle.values.specs.Fit.{fitAll}
@@ -33,7 +33,7 @@ use Rattle.billing.specs.File.{blankBench}
 use Rattle.demands.specs.Marked.{Cell, Case, Marked, Bus, Load, Ran, cases, holding, imageOf, loadSixth, afterJobs, sameBill, further, ran, asSaid, before, holdsCase, holdsMarked}
 use Rattle.table.specs.Figures.{figureOf}
 use Rattle.demands.specs.Beside.{sheets, shownAll, figures, partsAre, protectedEnds, comparedBits, sentences, edges, holds}
-use Rattle.chip.proofs.Ranges.{after-length}
+use Rattle.device.proofs.Ranges.{after-length}
 
 -- a cycle on cells that are known to be n
 cycleOn : ℕ → ℕ → List ℕ → Device → Cycle → Outcome

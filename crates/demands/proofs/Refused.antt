@@ -7,9 +7,9 @@ use Rattle.parts.specs.Table.{rowOf, partRefusal}
 use Rattle.parts.specs.Span.{holdsb, hasBlocks, sectorOf, blockOf, protectedOf}
 use Rattle.parts.specs.Time.{hasCommand, timeOf, isInterval}
 use Rattle.parts.proofs.Every.{every}
-use Rattle.chip.specs.Device.{suspendable, barred, validOperation, runsInRange, validSuspended, heldInRange, coreInRange, stageInRange, deviceInRange}
-use Rattle.chip.specs.Operation.{cellsOf}
-use Rattle.chip.specs.Cycle.{actionRefusal, cycleRefusal}
+use Rattle.device.specs.Device.{suspendable, barred, validOperation, runsInRange, validSuspended, heldInRange, coreInRange, stageInRange, deviceInRange}
+use Rattle.device.specs.Operation.{cellsOf}
+use Rattle.device.specs.Cycle.{actionRefusal, cycleRefusal}
 use Rattle.driver.specs.Refusals.{dataRefusal, targetRefusal, commandRefusal, startRefusal}
 use Rattle.driver.specs.Writes.{writeCount}
 use Rattle.values.specs.Fit.{fitAll}

@@ -8,8 +8,8 @@ use lib.Dec.{eqb, ltb}
 use lib.ListN.{length}
 use Rattle.parts.proofs.Every.{split}
 use Rattle.parts.specs.Pick.{_when_, _else_}
-use Rattle.chip.specs.Device.{freshDevice}
-use Rattle.chip.specs.Cycle.{Chip, chip}
+use Rattle.device.specs.Device.{freshDevice}
+use Rattle.device.specs.Cycle.{Chip, chip}
 use Rattle.bus.specs.Cycle.{deviceNumbers}
 use Rattle.job.specs.declared.loading.Progress.the-variants.{Waiting}
 use Rattle.job.specs.declared.loading.Loading.{Loading}

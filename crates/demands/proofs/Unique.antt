@@ -4,6 +4,7 @@ use Rattle.table.proofs.Determined as table
 use Rattle.values.proofs.Determined as values
 use Rattle.request.proofs.Determined as request
 use Rattle.commands.proofs.Determined as commands
+use Rattle.device.proofs.Determined as device
 use Rattle.chip.proofs.Determined as chip
 use Rattle.driver.proofs.Determined as driver
 use Rattle.bus.proofs.Determined as bus
@@ -41,7 +42,8 @@ unique =
       begin-refusal = request.begin-refusal-unique;
       standing-refusal = request.standing-refusal-unique;
       effect-of = commands.effect-of-unique;
-      fresh = chip.fresh-unique;
+      no-operation = device.no-operation-unique;
+      fresh = device.fresh-unique;
       bus-cycle = chip.bus-cycle-unique;
       start = driver.start-unique;
       start-writing = driver.start-writing-unique;

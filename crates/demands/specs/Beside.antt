@@ -6,9 +6,9 @@ use mathlib.Core.List.{List, [], _∷_, _++_}
 use lib.Dec.{eqb}
 use Rattle.parts.specs.Pick.{pick}
 use Rattle.table.specs.Figures.{figureOf}
-use Rattle.chip.specs.declared.cycle.Action.the-variants.{Write, Cut}
-use Rattle.chip.specs.declared.cycle.Cycle.{Cycle}
-use Rattle.chip.specs.Cycle.{cycle}
+use Rattle.device.specs.declared.cycle.Action.the-variants.{Write, Cut}
+use Rattle.device.specs.declared.cycle.Cycle.{Cycle}
+use Rattle.device.specs.Cycle.{cycle}
 use Rattle.demands.specs.Marked.{Cell, cell, Case, write, writeLow, read, idleFor, cut, arm, armLow, unlock}
 
 -- ---- the part table once more: what a chip of the part has to show

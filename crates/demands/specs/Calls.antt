@@ -17,9 +17,9 @@ use Rattle.table.proofs.part_row.Kinds as row-kinds
 use Rattle.table.proofs.part_row.Reads as row-reads
 use Rattle.table.proofs.part_figure.Kinds as figure-kinds
 use Rattle.table.proofs.part_figure.Reads as figure-reads
-use Rattle.chip.specs.declared.device.Device.{Device}
-use Rattle.chip.specs.declared.cycle.Cycle.{Cycle}
-use Rattle.chip.specs.Cycle.{Outcome, cycleRefusal}
+use Rattle.device.specs.declared.state.Device.{Device}
+use Rattle.device.specs.declared.cycle.Cycle.{Cycle}
+use Rattle.device.specs.Cycle.{Outcome, cycleRefusal}
 use Rattle.chip.proofs.bus_cycle.Kinds as bus-kinds
 use Rattle.chip.proofs.bus_cycle.Reads as bus-reads
 use Rattle.driver.specs.declared.machine.Driver.{Driver}

@@ -7,11 +7,11 @@ use mathlib.Core.List.{List}
 use lib.Dec.{ltb}
 use lib.ListN.{length}
 use Rattle.parts.specs.Pick.{_when_, _else_}
-use Rattle.chip.specs.declared.device.Device.{Device}
-use Rattle.chip.specs.declared.cycle.Action.the-variants.{Read, Write, Idle, Cut}
-use Rattle.chip.specs.declared.cycle.Cycle.{Cycle}
-use Rattle.chip.specs.Device.{freshDevice}
-use Rattle.chip.specs.Cycle.{cycle}
+use Rattle.device.specs.declared.state.Device.{Device}
+use Rattle.device.specs.declared.cycle.Action.the-variants.{Read, Write, Idle, Cut}
+use Rattle.device.specs.declared.cycle.Cycle.{Cycle}
+use Rattle.device.specs.Device.{freshDevice}
+use Rattle.device.specs.Cycle.{cycle}
 use Rattle.driver.specs.declared.machine.Driver.{Driver}
 use Rattle.driver.specs.Machine.{inRange}
 use Rattle.bus.specs.declared.cycle.DeviceNumbers.{DeviceNumbers}

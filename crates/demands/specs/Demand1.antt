@@ -14,7 +14,7 @@ use Rattle.table.specs.declared.figure.Figure.{Figure}
 use lib.Dec.{eqb}
 use lib.ListN.{length}
 use Rattle.parts.specs.declared.table.Found.{Found}
-use Rattle.chip.specs.Cycle.{Outcome, reply}
+use Rattle.device.specs.Cycle.{Outcome, reply}
 use Rattle.driver.specs.declared.machine.Started.{Started}
 use Rattle.driver.specs.declared.machine.Driver.{Driver}
 use Rattle.driver.specs.declared.machine.Step.{Step}

@@ -14,18 +14,18 @@ use Rattle.parts.specs.Pick.{pick}
 use Rattle.parts.specs.Width.{valueOf}
 use Rattle.parts.specs.Table.{rowOf, partRefusal}
 use Rattle.parts.specs.Time.{pollsOf}
-use Rattle.chip.specs.declared.device.Device.{Device}
-use Rattle.chip.specs.declared.device.Operation.{Operation}
+use Rattle.device.specs.declared.state.Device.{Device}
+use Rattle.device.specs.declared.state.Operation.{Operation}
 use Rattle.commands.specs.declared.effect.Mode.the-variants.{ReadMode}
 use Rattle.commands.specs.Commands.{effectOf}
-use Rattle.chip.specs.Device.{noOperation, withLeft, restarted, core, busyWith, busy, held, device, rested, suspendable, deviceInRange, idle}
-use Rattle.chip.specs.Sequence.{ignored, afterEffect, writtenOf}
-use Rattle.chip.specs.declared.cycle.Action.the-variants.{Read, Write}
-use Rattle.chip.specs.declared.cycle.Cycle.{Cycle}
-use Rattle.chip.specs.Cycle.{cycle, Chip, chip, afterTime, veils, cycleRefusal, actedOf}
-use Rattle.chip.specs.Trace.{after, play, startedIn, uncutAction, uncut}
-use Rattle.chip.specs.Recent.{DifferButSeven, recentOnce}
-use Rattle.chip.specs.Suspended.{stays, Stands}
+use Rattle.device.specs.Device.{noOperation, withLeft, restarted, core, busyWith, busy, held, device, rested, suspendable, deviceInRange, idle}
+use Rattle.device.specs.Sequence.{ignored, afterEffect, writtenOf}
+use Rattle.device.specs.declared.cycle.Action.the-variants.{Read, Write}
+use Rattle.device.specs.declared.cycle.Cycle.{Cycle}
+use Rattle.device.specs.Cycle.{cycle, Chip, chip, afterTime, veils, cycleRefusal, actedOf}
+use Rattle.device.specs.Trace.{after, play, startedIn, uncutAction, uncut}
+use Rattle.device.specs.Recent.{DifferButSeven, recentOnce}
+use Rattle.device.specs.Suspended.{stays, Stands}
 use Rattle.driver.specs.declared.machine.Phase.{Phase}
 use Rattle.driver.specs.declared.machine.Phase.the-variants.{Writing, Polling, Confirming, Done, GaveUp, Differs}
 use Rattle.driver.specs.declared.machine.Step.{Step}

@@ -10,12 +10,12 @@ use lib.ListN.{length}
 use Rattle.parts.specs.Width.{sectorSize}
 use Rattle.parts.specs.Table.{rowOf}
 use Rattle.parts.specs.Time.{timeOf}
-use Rattle.chip.specs.declared.device.Device.{Device}
-use Rattle.chip.specs.declared.cycle.Cycle.{Cycle}
-use Rattle.chip.specs.Device.{freshDevice, idle}
-use Rattle.chip.specs.Cycle.{chip}
-use Rattle.chip.specs.Trace.{startedIn}
-use Rattle.chip.specs.Recent.{later}
+use Rattle.device.specs.declared.state.Device.{Device}
+use Rattle.device.specs.declared.cycle.Cycle.{Cycle}
+use Rattle.device.specs.Device.{freshDevice, idle}
+use Rattle.device.specs.Cycle.{chip}
+use Rattle.device.specs.Trace.{startedIn}
+use Rattle.device.specs.Recent.{later}
 use Rattle.job.specs.declared.bill.Bill.{Bill}
 use Rattle.job.specs.Bill.{Loaded, loadOf}
 use Rattle.invoice.specs.Started.{tableTime}

@@ -6,13 +6,13 @@ use lib.Dec.{eqb}
 use lib.ListN.{getD, set, replicate, take, drop}
 use Rattle.parts.specs.Pick.{pick, _unless_, _else_}
 use Rattle.parts.specs.Table.{rowOf}
-use Rattle.chip.specs.declared.cycle.Action.{Action}
-use Rattle.chip.specs.declared.cycle.Action.the-variants.{Read, Write, Idle, Cut}
-use Rattle.chip.specs.declared.cycle.Cycle.{Cycle}
-use Rattle.chip.specs.declared.cycle.Reply.{Reply}
-use Rattle.chip.specs.Device.{freshDevice, busy}
-use Rattle.chip.specs.Cycle.{cycle, Chip, chip, Outcome, cycleOf}
-use Rattle.chip.specs.Trace.{leaves}
+use Rattle.device.specs.declared.cycle.Action.{Action}
+use Rattle.device.specs.declared.cycle.Action.the-variants.{Read, Write, Idle, Cut}
+use Rattle.device.specs.declared.cycle.Cycle.{Cycle}
+use Rattle.device.specs.declared.cycle.Reply.{Reply}
+use Rattle.device.specs.Device.{freshDevice, busy}
+use Rattle.device.specs.Cycle.{cycle, Chip, chip, Outcome, cycleOf}
+use Rattle.device.specs.Trace.{leaves}
 use Rattle.driver.specs.Reads.{isRead}
 use Rattle.billing.specs.File.{blankBench}
 use Rattle.job.specs.declared.bill.Bill.{Bill}

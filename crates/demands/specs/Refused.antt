@@ -8,11 +8,11 @@ use lib.ListN.{replicate}
 use Rattle.table.specs.Figures.{figureRefusal}
 use Rattle.commands.specs.declared.effect.Mode.{Mode}
 use Rattle.commands.specs.declared.effect.Mode.the-variants.{ReadMode, Identification}
-use Rattle.chip.specs.declared.device.Device.{Device}
-use Rattle.chip.specs.declared.cycle.Action.{Action}
-use Rattle.chip.specs.declared.cycle.Action.the-variants.{Read, Write, Idle, Cut}
-use Rattle.chip.specs.Device.{operation, noOperation, core, freshCore, device, freshDevice}
-use Rattle.chip.specs.Cycle.{cycleRefusal}
+use Rattle.device.specs.declared.state.Device.{Device}
+use Rattle.device.specs.declared.cycle.Action.{Action}
+use Rattle.device.specs.declared.cycle.Action.the-variants.{Read, Write, Idle, Cut}
+use Rattle.device.specs.Device.{operation, noOperation, core, freshCore, device, freshDevice}
+use Rattle.device.specs.Cycle.{cycleRefusal}
 use Rattle.driver.specs.Refusals.{commandRefusal, startRefusal}
 use Rattle.driver.specs.Writes.{kthRefusal}
 use Rattle.request.specs.Refusal.{jobRefusal}

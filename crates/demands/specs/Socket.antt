@@ -9,8 +9,8 @@ use mathlib.Core.List.{List}
 use lib.ListN.{length, take}
 use Rattle.parts.specs.Names.{BAD-STATE}
 use Rattle.parts.specs.Table.{rowOf}
-use Rattle.chip.specs.Device.{freshDevice}
-use Rattle.chip.specs.Cycle.{chip}
+use Rattle.device.specs.Device.{freshDevice}
+use Rattle.device.specs.Cycle.{chip}
 use Rattle.bus.specs.Cycle.{deviceNumbers}
 use Rattle.job.specs.declared.loader.Job.{Job}
 use Rattle.job.specs.declared.loading.Progress.the-variants.{Waiting}

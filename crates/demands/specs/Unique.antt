@@ -53,8 +53,10 @@ use Rattle.parts.proofs.rounded_up.Kinds as rounded-up-kinds
 use Rattle.parts.proofs.rounded_up.Reads as rounded-up-reads
 use Rattle.commands.proofs.effect_of.Kinds as effect-of-kinds
 use Rattle.commands.proofs.effect_of.Reads as effect-of-reads
-use Rattle.chip.proofs.fresh.Kinds as fresh-kinds
-use Rattle.chip.proofs.fresh.Reads as fresh-reads
+use Rattle.device.proofs.no_operation.Kinds as no-operation-kinds
+use Rattle.device.proofs.no_operation.Reads as no-operation-reads
+use Rattle.device.proofs.fresh.Kinds as fresh-kinds
+use Rattle.device.proofs.fresh.Reads as fresh-reads
 use Rattle.chip.proofs.bus_cycle.Kinds as bus-cycle-kinds
 use Rattle.chip.proofs.bus_cycle.Reads as bus-cycle-reads
 use Rattle.driver.proofs.start.Kinds as start-kinds
@@ -174,6 +176,7 @@ pub record Unique : Type 0 where
   -- the table of commands
   pub effect-of : OneResult 0 effect-of-kinds.ps effect-of-kinds.r effect-of-reads.Post
   -- the chip
+  pub no-operation : OneResult 0 no-operation-kinds.ps no-operation-kinds.r no-operation-reads.Post
   pub fresh : OneResult 0 fresh-kinds.ps fresh-kinds.r fresh-reads.Post
   pub bus-cycle : OneOutcome 1 bus-cycle-kinds.ps bus-cycle-kinds.r bus-cycle-reads.Post (λ κs s. s .1 .0 .now)
   -- the driver

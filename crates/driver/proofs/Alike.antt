@@ -11,9 +11,9 @@ use Rattle.parts.specs.Table.{rowOf, partRefusal}
 use Rattle.parts.proofs.Every.{both, split}
 use Rattle.parts.proofs.Values.{fits-lt}
 use Rattle.parts.proofs.Sound.{known, width-most, cells-most}
-use Rattle.chip.specs.Cycle.{cycle, Chip}
-use Rattle.chip.specs.Trace.{after}
-use Rattle.chip.proofs.Cases.{shown-word}
+use Rattle.device.specs.Cycle.{cycle, Chip}
+use Rattle.device.specs.Trace.{after}
+use Rattle.device.proofs.Cases.{shown-word}
 use Rattle.driver.specs.declared.machine.Phase.{Phase}
 use Rattle.driver.specs.declared.machine.Phase.the-variants.{Writing, Polling, Confirming, Done, GaveUp, Differs}
 use Rattle.driver.specs.declared.machine.Driver.{Driver}

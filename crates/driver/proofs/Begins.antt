@@ -11,7 +11,7 @@ use Rattle.parts.proofs.Every.{split}
 use Rattle.parts.specs.Width.{blankOf}
 use Rattle.parts.specs.declared.table.Row.{Row}
 use Rattle.parts.specs.declared.table.Found.{Found}
-use Rattle.chip.specs.Sequence.{ignored}
+use Rattle.device.specs.Sequence.{ignored}
 use Rattle.driver.proofs.Commands.{command-le, four}
 use Rattle.driver.specs.declared.machine.Started.{Started}
 use Rattle.driver.specs.declared.machine.Next.the-variants.{Nothing}

@@ -18,15 +18,15 @@ use Rattle.parts.specs.declared.table.Row.{Row}
 use Rattle.parts.proofs.Every.{unless, split}
 use Rattle.parts.proofs.Values.{lt-fits}
 use Rattle.parts.proofs.Sound.{width-least, codes-differ, sector-not-chip, block-not-chip, sector-byte, block-byte, u1-compared, u2-compared, compared-cells}
-use Rattle.chip.specs.declared.device.Core.{Core}
+use Rattle.device.specs.declared.state.Core.{Core}
 use Rattle.commands.specs.declared.effect.Effect.the-variants.{Goes, Starts}
-use Rattle.chip.specs.declared.cycle.Action.the-variants.{Write as Writes}
-use Rattle.chip.specs.Device.{busyWith, agedBy, busy, held, device}
+use Rattle.device.specs.declared.cycle.Action.the-variants.{Write as Writes}
+use Rattle.device.specs.Device.{busyWith, agedBy, busy, held, device}
 use Rattle.commands.specs.Commands.{effectOf}
-use Rattle.chip.specs.Sequence.{ignored, newOperation}
-use Rattle.chip.specs.Cycle.{cycle, chip}
-use Rattle.chip.proofs.Cases.{write-leaves, write-starts, none-held, none-resumed, only-protected}
-use Rattle.chip.proofs.Started.{Moves, Leads, ends, then}
+use Rattle.device.specs.Sequence.{ignored, newOperation}
+use Rattle.device.specs.Cycle.{cycle, chip}
+use Rattle.device.proofs.Cases.{write-leaves, write-starts, none-held, none-resumed, only-protected}
+use Rattle.device.proofs.Started.{Moves, Leads, ends, then}
 use Rattle.commands.specs.declared.write.Write.{Write}
 use Rattle.driver.specs.Writes.{lastWrite, writesOf}
 use Rattle.driver.specs.Talk.{writeCycle, writeCycles, operationOf}

@@ -18,7 +18,7 @@ use Rattle.parts.proofs.Every.{at}
 use Rattle.parts.proofs.Values.{value-blank, value-and, value-same, fits-lt}
 use Rattle.parts.proofs.Sound.{known, cells-some}
 use Rattle.parts.proofs.Ranges.{holds-bounds, sector-holds, block-holds}
-use Rattle.chip.specs.Operation.{cellsOf, over, finished, completeOn}
+use Rattle.device.specs.Operation.{cellsOf, over, finished, completeOn}
 use Rattle.driver.specs.Writes.{lastWrite}
 use Rattle.driver.specs.Machine.{addressOf, bitSeven, bitWanted, valueWanted}
 use Rattle.driver.specs.Endings.{MustRaiseSeven}

@@ -18,24 +18,24 @@ use Rattle.parts.proofs.Every.{split}
 use Rattle.parts.proofs.Values.{value-value}
 use Rattle.parts.proofs.Sound.{width-least, cells-some, time-some}
 use Rattle.parts.proofs.Rounding.{reaches, below, positive}
-use Rattle.chip.specs.declared.device.Operation.{Operation}
-use Rattle.chip.specs.declared.device.Core.{Core}
-use Rattle.chip.specs.declared.device.Device.{Device}
-use Rattle.chip.specs.declared.cycle.Action.{Action}
-use Rattle.chip.specs.declared.cycle.Action.the-variants.{Read}
-use Rattle.chip.specs.declared.cycle.Cycle.{Cycle}
-use Rattle.chip.specs.Device.{operation, withTurned, busyWith, atRest, busy, held, device, coreIdle}
-use Rattle.chip.specs.Operation.{cellsOf, completeOn}
-use Rattle.chip.specs.Sequence.{ignored}
-use Rattle.chip.specs.Cycle.{cycle, Chip, chip, Outcome, outcome, cycleOf, bit7, bit6, bit2, tells, status, outputsOf}
-use Rattle.chip.specs.Trace.{leaves, after, play, startedBy, startedIn}
-use Rattle.chip.proofs.Accepted.{Valid, valid-range}
-use Rattle.chip.proofs.Bits.{bit6-le, bit2-le}
-use Rattle.chip.proofs.Settled.{complete-length}
-use Rattle.chip.proofs.Idle.{idle-rests, idle-free}
-use Rattle.chip.proofs.Outputs.{keeps-seven}
-use Rattle.chip.proofs.Started.{last-starts-all, Leads}
-use Rattle.chip.proofs.Cases.{read-later, read-busy, read-done, none-barred}
+use Rattle.device.specs.declared.state.Operation.{Operation}
+use Rattle.device.specs.declared.state.Core.{Core}
+use Rattle.device.specs.declared.state.Device.{Device}
+use Rattle.device.specs.declared.cycle.Action.{Action}
+use Rattle.device.specs.declared.cycle.Action.the-variants.{Read}
+use Rattle.device.specs.declared.cycle.Cycle.{Cycle}
+use Rattle.device.specs.Device.{operation, withTurned, busyWith, atRest, busy, held, device, coreIdle}
+use Rattle.device.specs.Operation.{cellsOf, completeOn}
+use Rattle.device.specs.Sequence.{ignored}
+use Rattle.device.specs.Cycle.{cycle, Chip, chip, Outcome, outcome, cycleOf, bit7, bit6, bit2, tells, status, outputsOf}
+use Rattle.device.specs.Trace.{leaves, after, play, startedBy, startedIn}
+use Rattle.device.proofs.Accepted.{Valid, valid-range}
+use Rattle.device.proofs.Bits.{bit6-le, bit2-le}
+use Rattle.device.proofs.Settled.{complete-length}
+use Rattle.device.proofs.Idle.{idle-rests, idle-free}
+use Rattle.device.proofs.Outputs.{keeps-seven}
+use Rattle.device.proofs.Started.{last-starts-all, Leads}
+use Rattle.device.proofs.Cases.{read-later, read-busy, read-done, none-barred}
 use Rattle.commands.specs.declared.write.Write.{Write}
 use Rattle.driver.specs.declared.machine.Phase.{Phase}
 use Rattle.driver.specs.declared.machine.Phase.the-variants.{Writing, Polling, Confirming, Done, GaveUp, Differs}

@@ -14,14 +14,14 @@ use Rattle.parts.specs.Table.{rowOf, partRefusal}
 use Rattle.parts.specs.Time.{isInterval, timeOf, pollsOf}
 use Rattle.parts.specs.declared.table.Row.{Row}
 use Rattle.parts.proofs.Sound.{width-least}
-use Rattle.chip.specs.declared.device.Device.{Device}
-use Rattle.chip.specs.declared.device.Operation.{Operation}
-use Rattle.chip.specs.declared.cycle.Action.the-variants.{Read}
-use Rattle.chip.specs.declared.cycle.Cycle.{Cycle}
-use Rattle.chip.specs.Device.{busyWith, device, rested, coreIdle, idle}
-use Rattle.chip.specs.Sequence.{ignored}
-use Rattle.chip.specs.Cycle.{cycle, Chip, chip, outputsOf}
-use Rattle.chip.specs.Trace.{play, startedIn}
+use Rattle.device.specs.declared.state.Device.{Device}
+use Rattle.device.specs.declared.state.Operation.{Operation}
+use Rattle.device.specs.declared.cycle.Action.the-variants.{Read}
+use Rattle.device.specs.declared.cycle.Cycle.{Cycle}
+use Rattle.device.specs.Device.{busyWith, device, rested, coreIdle, idle}
+use Rattle.device.specs.Sequence.{ignored}
+use Rattle.device.specs.Cycle.{cycle, Chip, chip, outputsOf}
+use Rattle.device.specs.Trace.{play, startedIn}
 use Rattle.driver.specs.declared.machine.Phase.{Phase}
 use Rattle.driver.specs.declared.machine.Phase.the-variants.{Polling, Done, GaveUp, Differs}
 use Rattle.driver.specs.declared.machine.Next.the-variants.{Nothing}
@@ -37,9 +37,9 @@ use Rattle.driver.proofs.Asked as Asked
 use Rattle.driver.proofs.Steps.{refuses, most, StepInRange, kept, few-polls, falls, asks-on, final-polls, final-writing}
 use Rattle.driver.proofs.Named.{namedIn, namedBy, names, asCycle, cycles-are, cycles-few}
 use Rattle.driver.proofs.Within.{over, stands}
-use Rattle.chip.proofs.Idle.{idle-is, idle-rests, idle-free}
-use Rattle.chip.proofs.Outputs.{keeps-seven}
-use Rattle.chip.proofs.Started.{LastStarts, last-starts-all, Leads}
+use Rattle.device.proofs.Idle.{idle-is, idle-rests, idle-free}
+use Rattle.device.proofs.Outputs.{keeps-seven}
+use Rattle.device.proofs.Started.{LastStarts, last-starts-all, Leads}
 use Rattle.driver.proofs.Commands.{command-leads}
 use Rattle.driver.proofs.Begins.{start-is, few-commands, kept-accepted, start-range, kept-address, kept-bit, kept-value, kept-last, kept-writes, kept-heeded}
 use Rattle.driver.proofs.Talks as Talks

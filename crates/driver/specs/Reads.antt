@@ -4,13 +4,13 @@ use Prim.Native.Nat.{ℕ, _+_}
 use mathlib.Core.Bool.{Bool, true, false}
 use mathlib.Core.List.{List, [], _∷_}
 use Rattle.parts.specs.Pick.{pick}
-use Rattle.chip.specs.declared.device.Operation.{Operation}
-use Rattle.chip.specs.declared.cycle.Action.{Action}
-use Rattle.chip.specs.declared.cycle.Action.the-variants.{Read, Write, Idle, Cut}
-use Rattle.chip.specs.declared.cycle.Cycle.{Cycle}
-use Rattle.chip.specs.Device.{busy}
-use Rattle.chip.specs.Cycle.{Chip}
-use Rattle.chip.specs.Trace.{after, startedBy}
+use Rattle.device.specs.declared.state.Operation.{Operation}
+use Rattle.device.specs.declared.cycle.Action.{Action}
+use Rattle.device.specs.declared.cycle.Action.the-variants.{Read, Write, Idle, Cut}
+use Rattle.device.specs.declared.cycle.Cycle.{Cycle}
+use Rattle.device.specs.Device.{busy}
+use Rattle.device.specs.Cycle.{Chip}
+use Rattle.device.specs.Trace.{after, startedBy}
 
 abbrev pub isRead : Action → Bool
 isRead (Read a) = true

@@ -7,13 +7,13 @@ use lib.ListN.{getD, replicate}
 use Rattle.parts.specs.Pick.{pick}
 use Rattle.parts.specs.Width.{valueOf}
 use Rattle.parts.specs.declared.table.Row.{Row}
-use Rattle.chip.specs.declared.device.Operation.{Operation}
-use Rattle.chip.specs.declared.cycle.Action.the-variants.{Read, Write}
-use Rattle.chip.specs.declared.cycle.Cycle.{Cycle}
-use Rattle.chip.specs.Operation.{completeOn}
-use Rattle.chip.specs.Sequence.{newOperation}
-use Rattle.chip.specs.Cycle.{cycle, Chip, cycleOf}
-use Rattle.chip.specs.Trace.{after}
+use Rattle.device.specs.declared.state.Operation.{Operation}
+use Rattle.device.specs.declared.cycle.Action.the-variants.{Read, Write}
+use Rattle.device.specs.declared.cycle.Cycle.{Cycle}
+use Rattle.device.specs.Operation.{completeOn}
+use Rattle.device.specs.Sequence.{newOperation}
+use Rattle.device.specs.Cycle.{cycle, Chip, cycleOf}
+use Rattle.device.specs.Trace.{after}
 use Rattle.commands.specs.declared.write.Write.{Write as Written}
 use Rattle.driver.specs.declared.machine.Phase.{Phase}
 use Rattle.driver.specs.declared.machine.Driver.{Driver}

@@ -2,7 +2,7 @@
 use crate::refusals::start_refusal;
 use crate::writes::nth_write;
 use crate::writes::write_count;
-use chip::Action;
+use device::Action;
 use parts::Found;
 use parts::Row;
 use parts::names::BAD_STATE;

@@ -7,13 +7,13 @@ use native.Mathlib.Nat.{zero-add}
 use native.Mathlib.Omega.{arith}
 use lib.ListN.{length, take}
 use Rattle.parts.specs.Pick.{pick}
-use Rattle.chip.specs.declared.device.Operation.{Operation}
-use Rattle.chip.specs.declared.cycle.Action.the-variants.{Read}
-use Rattle.chip.specs.declared.cycle.Cycle.{Cycle}
-use Rattle.chip.specs.Device.{freshDevice}
-use Rattle.chip.specs.Cycle.{cycle, Chip, chip}
-use Rattle.chip.specs.Trace.{after, startedBy, startedIn}
-use Rattle.chip.proofs.Started.{read-starts, LastStarts}
+use Rattle.device.specs.declared.state.Operation.{Operation}
+use Rattle.device.specs.declared.cycle.Action.the-variants.{Read}
+use Rattle.device.specs.declared.cycle.Cycle.{Cycle}
+use Rattle.device.specs.Device.{freshDevice}
+use Rattle.device.specs.Cycle.{cycle, Chip, chip}
+use Rattle.device.specs.Trace.{after, startedBy, startedIn}
+use Rattle.device.proofs.Started.{read-starts, LastStarts}
 use Rattle.commands.specs.declared.write.Write.{Write}
 use Rattle.driver.specs.Talk.{writeCycles}
 use Rattle.driver.specs.Reads.{Due, Scans, Confirms, dueAfter, readAs, placesIn, counting, howMany}

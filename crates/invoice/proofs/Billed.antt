@@ -11,14 +11,14 @@ use lib.ListN.{length, take, length-map}
 use Rattle.parts.specs.Table.{rowOf}
 use Rattle.parts.specs.Time.{timeOf}
 use Rattle.parts.proofs.Ranges.{sector-some}
-use Rattle.chip.specs.declared.device.Device.{Device}
-use Rattle.chip.specs.declared.cycle.Cycle.{Cycle}
-use Rattle.chip.specs.Device.{freshDevice}
-use Rattle.chip.specs.Cycle.{Chip, chip}
-use Rattle.chip.specs.Trace.{play, startedIn}
+use Rattle.device.specs.declared.state.Device.{Device}
+use Rattle.device.specs.declared.cycle.Cycle.{Cycle}
+use Rattle.device.specs.Device.{freshDevice}
+use Rattle.device.specs.Cycle.{Chip, chip}
+use Rattle.device.specs.Trace.{play, startedIn}
 use Rattle.driver.specs.Machine.{confirmAfter}
 use Rattle.driver.specs.Reads.{Scans, Polls, Confirms, Place, placesIn, howMany}
-use Rattle.chip.proofs.Idle.{fresh-idle}
+use Rattle.device.proofs.Idle.{fresh-idle}
 use Rattle.job.specs.declared.loader.Job.{Job}
 use Rattle.job.specs.declared.run.Tally.{Tally}
 use Rattle.request.specs.Refusal.{jobRefusal}
@@ -30,7 +30,7 @@ use Rattle.job.proofs.Accepts.{Passed, passed}
 use Rattle.job.proofs.Counts.{play-tally, play-sent, job-fair, time-most}
 use Rattle.invoice.specs.Started.{cyclesIn, timeIn, lastIn, lastShown, tableTime}
 use Rattle.invoice.specs.Invoice.{started, placesSent, Invoice, Partly, Rival}
-use Rattle.chip.proofs.Started.{started-all}
+use Rattle.device.proofs.Started.{started-all}
 use Rattle.invoice.proofs.ByKind.{only-those}
 use Rattle.invoice.proofs.Placed.{placedAs, contents, map-take, places-take}
 use Rattle.invoice.proofs.Apiece.{Counts, Apiece, apiece-take, apiece-counts, apiece-shows, told-last, no-last, shown-last}

@@ -11,9 +11,9 @@ use Rattle.parts.specs.Pick.{pick}
 use Rattle.parts.specs.Time.{hasCommand}
 use Rattle.parts.specs.declared.table.Row.{Row}
 use Rattle.parts.proofs.Every.{unless}
-use Rattle.chip.specs.declared.device.Operation.{Operation}
-use Rattle.chip.specs.Trace.{All}
-use Rattle.chip.proofs.Started.{Startable}
+use Rattle.device.specs.declared.state.Operation.{Operation}
+use Rattle.device.specs.Trace.{All}
+use Rattle.device.proofs.Started.{Startable}
 use Rattle.job.specs.declared.run.Tally.{Tally}
 use Rattle.invoice.specs.Started.{many}
 use Rattle.invoice.proofs.Apiece.{Counts}

@@ -16,13 +16,13 @@ use Rattle.parts.proofs.Values.{value-blank, blank-and}
 use Rattle.parts.specs.Table.{rowOf}
 use Rattle.parts.specs.Time.{pollsOf}
 use Rattle.parts.specs.declared.table.Row.{Row}
-use Rattle.chip.specs.Sequence.{ignored}
-use Rattle.chip.specs.declared.cycle.Action.the-variants.{Read}
-use Rattle.chip.specs.declared.device.Operation.{Operation}
-use Rattle.chip.specs.Device.{rested}
-use Rattle.chip.specs.Cycle.{cycle, Chip, chip}
-use Rattle.chip.specs.Trace.{after, play}
-use Rattle.chip.proofs.Idle.{fresh-idle}
+use Rattle.device.specs.Sequence.{ignored}
+use Rattle.device.specs.declared.cycle.Action.the-variants.{Read}
+use Rattle.device.specs.declared.state.Operation.{Operation}
+use Rattle.device.specs.Device.{rested}
+use Rattle.device.specs.Cycle.{cycle, Chip, chip}
+use Rattle.device.specs.Trace.{after, play}
+use Rattle.device.proofs.Idle.{fresh-idle}
 use Rattle.driver.specs.declared.machine.Next.{Next}
 use Rattle.driver.specs.declared.machine.Next.the-variants.{Nothing, Send}
 use Rattle.driver.specs.declared.machine.Step.{Step}

@@ -11,15 +11,15 @@ use Rattle.parts.specs.Width.{valueOf}
 use Rattle.parts.specs.Table.{rowOf}
 use Rattle.parts.proofs.Sound.{width-least}
 use Rattle.commands.specs.declared.effect.Mode.the-variants.{ReadMode}
-use Rattle.chip.specs.declared.device.Device.{Device}
-use Rattle.chip.specs.declared.cycle.Action.the-variants.{Read}
-use Rattle.chip.specs.Cycle.{cycle, chip, Outcome, inverted, veils, cycleRefusal}
-use Rattle.chip.specs.Trace.{after}
-use Rattle.chip.specs.Recent.{bitOf}
-use Rattle.chip.proofs.Accepted.{accepted}
-use Rattle.chip.proofs.Cases.{read-at-rest}
-use Rattle.chip.proofs.Outputs.{turns-zero}
-use Rattle.chip.proofs.Recent.{recent-rests}
+use Rattle.device.specs.declared.state.Device.{Device}
+use Rattle.device.specs.declared.cycle.Action.the-variants.{Read}
+use Rattle.device.specs.Cycle.{cycle, chip, Outcome, inverted, veils, cycleRefusal}
+use Rattle.device.specs.Trace.{after}
+use Rattle.device.specs.Recent.{bitOf}
+use Rattle.device.proofs.Accepted.{accepted}
+use Rattle.device.proofs.Cases.{read-at-rest}
+use Rattle.device.proofs.Outputs.{turns-zero}
+use Rattle.device.proofs.Recent.{recent-rests}
 use Rattle.driver.specs.Talk.{shows}
 use Rattle.invoice.specs.Started.{showsCell}
 

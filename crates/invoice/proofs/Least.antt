@@ -21,18 +21,18 @@ use Rattle.parts.specs.declared.table.Row.{Row}
 use Rattle.parts.proofs.Values.{value-same, value-blank, fits-lt}
 use Rattle.parts.proofs.Every.{both, unless}
 use Rattle.parts.proofs.Ranges.{sector-some}
-use Rattle.chip.specs.declared.device.Device.{Device}
-use Rattle.chip.specs.declared.device.Operation.{Operation}
-use Rattle.chip.specs.declared.cycle.Cycle.{Cycle}
-use Rattle.chip.specs.Device.{freshDevice, idle}
-use Rattle.chip.specs.Operation.{cellsOf, finished, completeOn}
-use Rattle.chip.specs.Cycle.{Chip, chip}
-use Rattle.chip.specs.Trace.{play, startedIn, uncut, completeAll, All}
-use Rattle.chip.specs.Recent.{later}
-use Rattle.chip.proofs.Leaves.{stored}
-use Rattle.chip.proofs.Idle.{fresh-idle}
-use Rattle.chip.proofs.Trace.{trace}
-use Rattle.chip.proofs.Started.{Startable, started-all}
+use Rattle.device.specs.declared.state.Device.{Device}
+use Rattle.device.specs.declared.state.Operation.{Operation}
+use Rattle.device.specs.declared.cycle.Cycle.{Cycle}
+use Rattle.device.specs.Device.{freshDevice, idle}
+use Rattle.device.specs.Operation.{cellsOf, finished, completeOn}
+use Rattle.device.specs.Cycle.{Chip, chip}
+use Rattle.device.specs.Trace.{play, startedIn, uncut, completeAll, All}
+use Rattle.device.specs.Recent.{later}
+use Rattle.device.proofs.Leaves.{stored}
+use Rattle.device.proofs.Idle.{fresh-idle}
+use Rattle.device.proofs.Trace.{trace}
+use Rattle.device.proofs.Started.{Startable, started-all}
 use Rattle.driver.specs.Writes.{lastWrite}
 use Rattle.job.specs.declared.loader.Job.{Job}
 use Rattle.values.specs.Fit.{fitAll}

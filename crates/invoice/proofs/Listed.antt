@@ -6,7 +6,7 @@ use lib.ListN.{take, drop}
 use Rattle.parts.specs.Pick.{pick}
 use Rattle.parts.specs.Width.{valueOf, blankOf}
 use Rattle.parts.specs.Table.{rowOf}
-use Rattle.chip.specs.declared.device.Operation.{Operation}
+use Rattle.device.specs.declared.state.Operation.{Operation}
 use Rattle.driver.specs.Talk.{operationOf}
 use Rattle.job.specs.declared.loader.Job.{Job}
 use Rattle.values.specs.declared.search.Decision.{Decision}

@@ -8,8 +8,8 @@ use borrow.Author.Tests.{eq-eqb}
 use lib.Dec.{ltb}
 use lib.ListN.{length, take, drop}
 use Rattle.parts.specs.Table.{rowOf}
-use Rattle.chip.specs.declared.device.Operation.{Operation}
-use Rattle.chip.specs.Trace.{completeAll}
+use Rattle.device.specs.declared.state.Operation.{Operation}
+use Rattle.device.specs.Trace.{completeAll}
 use Rattle.job.specs.declared.loader.Job.{Job}
 use Rattle.job.specs.declared.run.Tally.{Tally}
 use Rattle.values.specs.Total.{sumOf}

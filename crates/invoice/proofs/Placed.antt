@@ -6,9 +6,9 @@ use native.Mathlib.Omega.{arith}
 use lib.Dec.{eqb}
 use lib.ListN.{take}
 use Rattle.parts.proofs.Every.{split}
-use Rattle.chip.specs.declared.cycle.Cycle.{Cycle}
-use Rattle.chip.specs.Cycle.{Chip}
-use Rattle.chip.specs.Trace.{after}
+use Rattle.device.specs.declared.cycle.Cycle.{Cycle}
+use Rattle.device.specs.Cycle.{Chip}
+use Rattle.device.specs.Trace.{after}
 use Rattle.driver.specs.Reads.{Due, Scans, Polls, Confirms, dueAfter, Place, ARead, NoRead, readAs, placesIn, counting, howMany}
 use Rattle.job.specs.declared.loader.Purpose.{Purpose}
 use Rattle.job.specs.declared.loader.Purpose.the-variants.{Scan, Lead, Begin, Poll, Confirm}

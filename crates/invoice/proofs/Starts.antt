@@ -9,14 +9,14 @@ use lib.ListN.{length, getD, replicate}
 use Rattle.parts.specs.Width.{valueOf}
 use Rattle.parts.specs.Table.{rowOf}
 use Rattle.parts.specs.Time.{pollsOf}
-use Rattle.chip.specs.declared.device.Operation.{Operation}
-use Rattle.chip.specs.declared.cycle.Action.the-variants.{Read}
-use Rattle.chip.specs.declared.cycle.Cycle.{Cycle}
-use Rattle.chip.specs.Device.{rested, idle}
-use Rattle.chip.specs.Sequence.{ignored}
-use Rattle.chip.specs.Cycle.{cycle, Chip, chip}
-use Rattle.chip.specs.Trace.{after, play, startedIn, uncut}
-use Rattle.chip.proofs.Started.{started-append, read-starts, reads-start, one-read-starts, uncut-append}
+use Rattle.device.specs.declared.state.Operation.{Operation}
+use Rattle.device.specs.declared.cycle.Action.the-variants.{Read}
+use Rattle.device.specs.declared.cycle.Cycle.{Cycle}
+use Rattle.device.specs.Device.{rested, idle}
+use Rattle.device.specs.Sequence.{ignored}
+use Rattle.device.specs.Cycle.{cycle, Chip, chip}
+use Rattle.device.specs.Trace.{after, play, startedIn, uncut}
+use Rattle.device.proofs.Started.{started-append, read-starts, reads-start, one-read-starts, uncut-append}
 use Rattle.commands.specs.declared.write.Write.{Write}
 use Rattle.driver.specs.Writes.{writesOf, writeCount}
 use Rattle.driver.specs.Machine.{addressOf, confirmAfter}

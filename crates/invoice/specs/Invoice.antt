@@ -8,13 +8,13 @@ use Rattle.parts.specs.Names.{PROGRAM, SECTOR, BLOCK, CHIP}
 use Rattle.parts.specs.Width.{valueOf, sectorSize}
 use Rattle.parts.specs.Table.{rowOf}
 use Rattle.parts.specs.Time.{pollsOf}
-use Rattle.chip.specs.declared.device.Device.{Device}
-use Rattle.chip.specs.declared.device.Operation.{Operation}
-use Rattle.chip.specs.declared.cycle.Cycle.{Cycle}
-use Rattle.chip.specs.Device.{freshDevice, idle}
-use Rattle.chip.specs.Cycle.{chip}
-use Rattle.chip.specs.Trace.{play, startedIn, uncut as uncutAll}
-use Rattle.chip.specs.Recent.{later}
+use Rattle.device.specs.declared.state.Device.{Device}
+use Rattle.device.specs.declared.state.Operation.{Operation}
+use Rattle.device.specs.declared.cycle.Cycle.{Cycle}
+use Rattle.device.specs.Device.{freshDevice, idle}
+use Rattle.device.specs.Cycle.{chip}
+use Rattle.device.specs.Trace.{play, startedIn, uncut as uncutAll}
+use Rattle.device.specs.Recent.{later}
 use Rattle.driver.specs.Reads.{Scans, Polls, Confirms, Place, placesIn, howMany}
 use Rattle.values.specs.Total.{sumOf}
 use Rattle.job.specs.Sent.{sentOf}

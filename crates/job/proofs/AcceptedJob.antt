@@ -8,7 +8,7 @@ use lib.ListN.{length, getD}
 use Rattle.parts.specs.Width.{sectorSize}
 use Rattle.parts.specs.Table.{rowOf, partRefusal}
 use Rattle.parts.specs.Time.{hasCommand}
-use Rattle.chip.specs.Sequence.{ignored}
+use Rattle.device.specs.Sequence.{ignored}
 use Rattle.driver.specs.Refusals.{startRefusal}
 use Rattle.driver.proofs.Asked.{beginning}
 use Rattle.job.specs.declared.loader.Job.{Job}

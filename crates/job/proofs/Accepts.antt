@@ -12,7 +12,7 @@ use Rattle.parts.specs.Table.{rowOf}
 use Rattle.parts.specs.Span.{protectedOf}
 use Rattle.parts.specs.declared.table.Row.{Row}
 use Rattle.parts.proofs.Every.{split}
-use Rattle.chip.specs.Sequence.{ignored}
+use Rattle.device.specs.Sequence.{ignored}
 use Rattle.request.specs.Refusal.{meets, beginRefusal, jobRefusal}
 use Rattle.request.proofs.Accepts.{apart-from, standing, none-stands, lent-cells}
 use Rattle.job.specs.Bill.{jobFrom}

@@ -17,8 +17,8 @@ use Rattle.parts.specs.declared.table.Line.{Line}
 use Rattle.parts.proofs.Every.{split, both, at}
 use Rattle.parts.proofs.Sound.{known, cells-most}
 use Rattle.parts.proofs.Rounding.{least}
-use Rattle.chip.specs.declared.cycle.Action.{Action}
-use Rattle.chip.specs.Cycle.{cycle}
+use Rattle.device.specs.declared.cycle.Action.{Action}
+use Rattle.device.specs.Cycle.{cycle}
 use Rattle.driver.specs.Writes.{writesOf}
 use Rattle.job.specs.declared.loader.Job.{Job}
 use Rattle.job.specs.declared.loader.Purpose.{Purpose}

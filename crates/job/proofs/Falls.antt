@@ -12,9 +12,9 @@ use Rattle.parts.specs.Width.{valueOf}
 use Rattle.parts.specs.Table.{rowOf}
 use Rattle.parts.proofs.Every.{both, split}
 use Rattle.parts.proofs.Ranges.{sector-some}
-use Rattle.chip.specs.declared.cycle.Action.{Action}
-use Rattle.chip.specs.declared.cycle.Action.the-variants.{Read}
-use Rattle.chip.specs.declared.cycle.Cycle.{Cycle}
+use Rattle.device.specs.declared.cycle.Action.{Action}
+use Rattle.device.specs.declared.cycle.Action.the-variants.{Read}
+use Rattle.device.specs.declared.cycle.Cycle.{Cycle}
 use Rattle.driver.specs.declared.machine.Phase.{Phase}
 use Rattle.driver.specs.declared.machine.Phase.the-variants.{Writing, Polling, Confirming, Done, GaveUp, Differs}
 use Rattle.driver.specs.declared.machine.Driver.{Driver}

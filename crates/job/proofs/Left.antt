@@ -10,8 +10,8 @@ use lib.Bits.{bitAnd}
 use Rattle.parts.specs.Width.{blankOf, sectorSize}
 use Rattle.parts.specs.Span.{span, sectorOf}
 use Rattle.parts.specs.declared.table.Row.{Row}
-use Rattle.chip.specs.Operation.{cellsOf, finished, completeOn}
-use Rattle.chip.proofs.Leaves.{stored}
+use Rattle.device.specs.Operation.{cellsOf, finished, completeOn}
+use Rattle.device.proofs.Leaves.{stored}
 use Rattle.driver.specs.Writes.{lastWrite}
 use Rattle.driver.specs.Talk.{operationOf, completed}
 

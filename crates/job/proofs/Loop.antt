@@ -7,7 +7,7 @@ use native.Mathlib.Omega.{arith}
 use lib.Dec.{eqb}
 use lib.ListN.{replicate}
 use Rattle.parts.proofs.Every.{split}
-use Rattle.chip.specs.declared.cycle.Cycle.{Cycle}
+use Rattle.device.specs.declared.cycle.Cycle.{Cycle}
 use Rattle.job.specs.declared.loader.Job.{Job}
 use Rattle.job.specs.declared.loader.Loader.{Loader}
 use Rattle.job.specs.declared.loader.Purpose.{Purpose}

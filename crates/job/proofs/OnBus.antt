@@ -10,10 +10,10 @@ use lib.Seq.{take-all}
 use Rattle.parts.specs.Width.{sectorSize}
 use Rattle.parts.specs.Table.{rowOf}
 use Rattle.parts.proofs.Ranges.{sector-some}
-use Rattle.chip.specs.declared.cycle.Cycle.{Cycle}
-use Rattle.chip.specs.Device.{freshDevice}
-use Rattle.chip.specs.Cycle.{Chip, chip}
-use Rattle.chip.specs.Trace.{after}
+use Rattle.device.specs.declared.cycle.Cycle.{Cycle}
+use Rattle.device.specs.Device.{freshDevice}
+use Rattle.device.specs.Cycle.{Chip, chip}
+use Rattle.device.specs.Trace.{after}
 use Rattle.driver.specs.Machine.{mostPolls}
 use Rattle.driver.specs.Talk.{shows}
 use Rattle.job.specs.declared.loader.Job.{Job}

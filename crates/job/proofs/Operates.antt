@@ -9,12 +9,12 @@ use borrow.Author.Tests.{ne-eqb}
 use lib.ListN.{length}
 use Rattle.parts.specs.Table.{rowOf}
 use Rattle.parts.specs.Time.{pollsOf}
-use Rattle.chip.specs.declared.cycle.Action.the-variants.{Write}
-use Rattle.chip.specs.declared.device.Device.{Device}
-use Rattle.chip.specs.Device.{freshDevice, rested}
-use Rattle.chip.specs.Sequence.{ignored}
-use Rattle.chip.specs.Cycle.{cycle, Chip, chip}
-use Rattle.chip.proofs.Idle.{fresh-idle}
+use Rattle.device.specs.declared.cycle.Action.the-variants.{Write}
+use Rattle.device.specs.declared.state.Device.{Device}
+use Rattle.device.specs.Device.{freshDevice, rested}
+use Rattle.device.specs.Sequence.{ignored}
+use Rattle.device.specs.Cycle.{cycle, Chip, chip}
+use Rattle.device.proofs.Idle.{fresh-idle}
 use Rattle.commands.specs.declared.write.Write.{Write as Written}
 use Rattle.driver.specs.declared.machine.Phase.the-variants.{Polling, Done}
 use Rattle.driver.specs.declared.machine.Driver.{Driver}

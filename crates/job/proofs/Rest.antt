@@ -5,10 +5,10 @@ use mathlib.Core.List.{List, [], _∷_, _++_}
 use native.Mathlib.Nat.{not-suc-le-zero, le-of-suc-le-suc}
 use borrow.Author.Tests.{eq-eqb}
 use lib.ListN.{length, take}
-use Rattle.chip.specs.declared.cycle.Action.{Action}
-use Rattle.chip.specs.declared.cycle.Cycle.{Cycle}
-use Rattle.chip.specs.Cycle.{cycle, Chip, chip}
-use Rattle.chip.specs.Trace.{after}
+use Rattle.device.specs.declared.cycle.Action.{Action}
+use Rattle.device.specs.declared.cycle.Cycle.{Cycle}
+use Rattle.device.specs.Cycle.{cycle, Chip, chip}
+use Rattle.device.specs.Trace.{after}
 use Rattle.driver.specs.declared.machine.Phase.{Phase}
 use Rattle.driver.specs.declared.machine.Driver.{Driver}
 use Rattle.driver.specs.declared.machine.Next.{Next}

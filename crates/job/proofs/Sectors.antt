@@ -16,12 +16,12 @@ use Rattle.parts.specs.Width.{valueOf, blankOf, fitsIn, sectorSize}
 use Rattle.parts.proofs.Values.{value-value, value-blank, blank-and}
 use Rattle.parts.specs.Table.{rowOf}
 use Rattle.parts.specs.declared.table.Row.{Row}
-use Rattle.chip.specs.declared.cycle.Action.the-variants.{Read}
-use Rattle.chip.specs.declared.cycle.Cycle.{Cycle}
-use Rattle.chip.specs.Device.{freshCore, freshDevice}
-use Rattle.chip.specs.Cycle.{cycle, Outcome, outcome, cycleOf}
-use Rattle.chip.proofs.Cases.{read-idle}
-use Rattle.chip.proofs.Idle.{fresh-core-idle, fresh-idle}
+use Rattle.device.specs.declared.cycle.Action.the-variants.{Read}
+use Rattle.device.specs.declared.cycle.Cycle.{Cycle}
+use Rattle.device.specs.Device.{freshCore, freshDevice}
+use Rattle.device.specs.Cycle.{cycle, Outcome, outcome, cycleOf}
+use Rattle.device.proofs.Cases.{read-idle}
+use Rattle.device.proofs.Idle.{fresh-core-idle, fresh-idle}
 use Rattle.driver.specs.Talk.{completed}
 use Rattle.driver.proofs.Theorems.{program-shows, erase-shows}
 use Rattle.job.specs.declared.loader.Job.{Job}

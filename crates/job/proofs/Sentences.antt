@@ -12,8 +12,8 @@ use Rattle.parts.specs.Width.{valueOf, blankOf, sectorSize}
 use Rattle.parts.specs.Table.{rowOf}
 use Rattle.parts.specs.Time.{pollsOf}
 use Rattle.parts.proofs.Every.{split}
-use Rattle.chip.specs.declared.cycle.Action.the-variants.{Read}
-use Rattle.chip.specs.Cycle.{cycle}
+use Rattle.device.specs.declared.cycle.Action.the-variants.{Read}
+use Rattle.device.specs.Cycle.{cycle}
 use Rattle.commands.specs.declared.write.Write.{Write as Written}
 use Rattle.driver.specs.Writes.{writesOf}
 use Rattle.driver.specs.Machine.{confirmAfter}

@@ -7,9 +7,9 @@ use lib.ListN.{getD, set, take, drop}
 use Rattle.parts.specs.Names.{BAD-STATE, PROGRAM, SECTOR}
 use Rattle.parts.specs.Pick.{pick}
 use Rattle.parts.specs.Width.{valueOf, blankOf}
-use Rattle.chip.specs.declared.cycle.Action.{Action}
-use Rattle.chip.specs.declared.cycle.Action.the-variants.{Read, Write, Idle, Cut}
-use Rattle.chip.specs.Cycle.{cycle}
+use Rattle.device.specs.declared.cycle.Action.{Action}
+use Rattle.device.specs.declared.cycle.Action.the-variants.{Read, Write, Idle, Cut}
+use Rattle.device.specs.Cycle.{cycle}
 use Rattle.driver.specs.declared.machine.Phase.{Phase}
 use Rattle.driver.specs.declared.machine.Phase.the-variants.{Writing, Polling, Confirming, Done, GaveUp, Differs}
 use Rattle.driver.specs.declared.machine.Driver.{Driver}

@@ -8,8 +8,8 @@ use Rattle.parts.specs.Names.{PROGRAM, SECTOR}
 use Rattle.parts.specs.Pick.{pick}
 use Rattle.parts.specs.Width.{valueOf, blankOf}
 use Rattle.parts.specs.Time.{pollsOf}
-use Rattle.chip.specs.declared.cycle.Action.the-variants.{Read, Write}
-use Rattle.chip.specs.Cycle.{cycle}
+use Rattle.device.specs.declared.cycle.Action.the-variants.{Read, Write}
+use Rattle.device.specs.Cycle.{cycle}
 use Rattle.commands.specs.declared.write.Write.{Write as Written}
 use Rattle.driver.specs.Writes.{writesOf}
 use Rattle.driver.specs.Machine.{confirmAfter}

@@ -8,10 +8,10 @@ use lib.ListN.{length, getD}
 use Rattle.parts.specs.Names.{PROGRAM, SECTOR}
 use Rattle.parts.specs.Table.{rowOf}
 use Rattle.parts.specs.Time.{pollsOf}
-use Rattle.chip.specs.declared.cycle.Action.{Action}
-use Rattle.chip.specs.declared.cycle.Action.the-variants.{Read, Write}
-use Rattle.chip.specs.Cycle.{Chip}
-use Rattle.chip.specs.Trace.{after}
+use Rattle.device.specs.declared.cycle.Action.{Action}
+use Rattle.device.specs.declared.cycle.Action.the-variants.{Read, Write}
+use Rattle.device.specs.Cycle.{Chip}
+use Rattle.device.specs.Trace.{after}
 use Rattle.commands.specs.declared.write.Write.{Write as Written}
 use Rattle.driver.specs.Writes.{writeCount, nthWrite}
 use Rattle.driver.specs.Talk.{shows}

@@ -1,6 +1,6 @@
 // The loader: a machine by value over replies. It never sees the cells: what it decides, it decides from what was read.
-use chip::Action;
-use chip::Cycle;
+use device::Action;
+use device::Cycle;
 use driver::Driver;
 use driver::Next;
 use driver::Phase;

@@ -6,7 +6,7 @@ use crate::loader::Purpose;
 use crate::loader::Stage;
 use crate::loader::Task;
 use crate::loader::Turn;
-use chip::Cycle;
+use device::Cycle;
 use driver::Driver;
 use driver::Phase;
 use parts::names::BAD_STATE;

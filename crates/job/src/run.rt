@@ -2,9 +2,9 @@
 use crate::loader::Job;
 use crate::loader::Purpose;
 use crate::loader::Turn;
-use chip::Action;
-use chip::Cycle;
-use chip::Device;
+use device::Action;
+use device::Cycle;
+use device::Device;
 use parts::names::A_READ;
 use parts::names::A_WRITE;
 use parts::names::NO_CYCLE;
@@ -145,7 +145,7 @@ fn none_sent() -> Held
         time: 0,
     };
     Held {
-        device: chip::fresh(),
+        device: device::fresh(),
         tally,
         last: no_last(),
         reply: 0,

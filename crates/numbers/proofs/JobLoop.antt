@@ -2,9 +2,9 @@
 use Prim.Native.Nat.{ℕ, zero, suc}
 use mathlib.Core.Path.{_≡_, refl, ap, _∙_}
 use mathlib.Core.List.{List, _∷_}
-use Rattle.chip.specs.declared.cycle.Cycle.{Cycle}
-use Rattle.chip.specs.Cycle.{Chip, cycleOf}
-use Rattle.chip.specs.Trace.{after}
+use Rattle.device.specs.declared.cycle.Cycle.{Cycle}
+use Rattle.device.specs.Cycle.{Chip, cycleOf}
+use Rattle.device.specs.Trace.{after}
 use Rattle.driver.specs.Talk.{shows}
 use Rattle.bus.specs.Cycle.{deviceNumbers, deviceOf, cycledNumbers}
 use Rattle.bus.proofs.Back.{level-back, device-back, cycle-of-device}

@@ -2,9 +2,9 @@
 use Prim.Native.Nat.{ℕ, zero, suc}
 use mathlib.Core.Path.{_≡_, refl, ap, _∙_}
 use mathlib.Core.List.{_∷_}
-use Rattle.chip.specs.declared.cycle.Action.{Action}
-use Rattle.chip.specs.Cycle.{Chip, cycle}
-use Rattle.chip.specs.Trace.{after}
+use Rattle.device.specs.declared.cycle.Action.{Action}
+use Rattle.device.specs.Cycle.{Chip, cycle}
+use Rattle.device.specs.Trace.{after}
 use Rattle.driver.specs.declared.machine.Driver.{Driver}
 use Rattle.driver.specs.declared.machine.Next.{Next}
 use Rattle.driver.specs.declared.machine.Next.the-variants.{Nothing, Send}

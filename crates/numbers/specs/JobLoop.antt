@@ -1,8 +1,8 @@
 -- The C controller's loop over a job: it turns, sends the cycle that is named at its level, and gives what it was shown to the next turn.
 use Prim.Native.Nat.{ℕ, zero, suc}
 use mathlib.Core.List.{List, [], _∷_, map}
-use Rattle.chip.specs.declared.cycle.Cycle.{Cycle}
-use Rattle.chip.specs.Cycle.{cycle}
+use Rattle.device.specs.declared.cycle.Cycle.{Cycle}
+use Rattle.device.specs.Cycle.{cycle}
 use Rattle.driver.specs.declared.machine.Next.{Next}
 use Rattle.driver.specs.declared.machine.Next.the-variants.{Nothing, Send}
 use Rattle.bus.specs.declared.cycle.DeviceNumbers.{DeviceNumbers}

@@ -1,8 +1,8 @@
 -- The C controller's loop: it steps, sends the cycle that is named, and gives what it was shown to the next step.
 use Prim.Native.Nat.{ℕ, zero, suc}
 use mathlib.Core.List.{List, [], _∷_}
-use Rattle.chip.specs.declared.cycle.Cycle.{Cycle}
-use Rattle.chip.specs.Cycle.{cycle}
+use Rattle.device.specs.declared.cycle.Cycle.{Cycle}
+use Rattle.device.specs.Cycle.{cycle}
 use Rattle.driver.specs.declared.machine.Next.the-variants.{Nothing, Send}
 use Rattle.driver.specs.Talk.{Told, Heard}
 use Rattle.bus.specs.declared.cycle.DeviceNumbers.{DeviceNumbers}

@@ -3,8 +3,8 @@ use Prim.Native.Nat.{ℕ}
 use lib.Dec.{eqb, ltb}
 use Rattle.parts.specs.Names.{NO-CYCLE, A-READ, A-WRITE, BAD-STATE}
 use Rattle.parts.specs.Pick.{_when_, _else_}
-use Rattle.chip.specs.declared.cycle.Action.{Action}
-use Rattle.chip.specs.declared.cycle.Action.the-variants.{Read, Write, Idle, Cut}
+use Rattle.device.specs.declared.cycle.Action.{Action}
+use Rattle.device.specs.declared.cycle.Action.the-variants.{Read, Write, Idle, Cut}
 use Rattle.driver.specs.declared.machine.Phase.{Phase}
 use Rattle.driver.specs.declared.machine.Phase.the-variants.{Writing, Polling, Confirming, Done, GaveUp, Differs}
 use Rattle.driver.specs.declared.machine.Driver.{Driver}

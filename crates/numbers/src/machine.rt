@@ -1,5 +1,5 @@
 // The driver as plain numbers: its state, its start and its step. Any numbers may be given.
-use chip::Action;
+use device::Action;
 use driver::Driver;
 use driver::Next;
 use driver::Phase;

@@ -3,10 +3,10 @@ use bus::DeviceNumbers;
 use bus::OperationNumbers;
 use bus::READ_MODE;
 use bus::ReplyNumbers;
-use chip::Action;
+use device::Action;
 use parts::names::NONE_BEGUN;
 ghost use mathlib.Core.Path.{_≡_};
-ghost use Rattle.chip.specs.Device.{freshDevice, noOperation};
+ghost use Rattle.device.specs.Device.{freshDevice, noOperation};
 ghost use Rattle.bus.specs.Cycle.{cycledOf, deviceNumbers, operationNumbers};
 
 // The numbers of no operation.

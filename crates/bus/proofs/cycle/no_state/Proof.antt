@@ -1,5 +1,5 @@
 -- `bus::cycle::no_state` meets its contract.
-use Rattle.chip.specs.declared.device.Device.{Device}
+use Rattle.device.specs.declared.state.Device.{Device}
 use mathlib.Core.Path.{ap}
 use borrow.Author.Needs.{needs}
 use Rattle.bus.proofs.cycle.no_state.Statement.{statement}

@@ -1,8 +1,8 @@
 -- `chip::cycle::act` meets its contract.
 use mathlib.Core.Path.{refl, ap, sym, _∙_}
 use native.Mathlib.Omega.{arith}
-use Rattle.chip.specs.Cycle.{actionRefusal}
-use Rattle.chip.proofs.Accepted.{read-there}
+use Rattle.device.specs.Cycle.{actionRefusal}
+use Rattle.device.proofs.Accepted.{read-there}
 use borrow.Author.Needs.{needs}
 use Rattle.chip.proofs.cycle.act.Statement.{statement}
 use Rattle.chip.proofs.cycle.act.Tie as tie

@@ -1,6 +1,6 @@
 -- `chip::cycle::action_refusal` meets its contract.
 use borrow.Author.Needs.{needs}
-use Rattle.chip.specs.Cycle.{actionRefusal}
+use Rattle.device.specs.Cycle.{actionRefusal}
 use Rattle.chip.proofs.cycle.action_refusal.Statement.{statement}
 use Rattle.chip.proofs.cycle.action_refusal.Tie as tie
 

@@ -1,6 +1,6 @@
 -- `chip::cycle::bus_cycle` meets its contract. At each need n is the refusal's place, f where the part was found, g the arguments, s where time has passed.
 use borrow.Author.Needs.{needs}
-use Rattle.chip.proofs.Settled.{ready-settle, ready-act, whole-cycle, refused-whole}
+use Rattle.device.proofs.Settled.{ready-settle, ready-act, whole-cycle, refused-whole}
 use Rattle.chip.proofs.cycle.bus_cycle.Statement.{statement}
 use Rattle.chip.proofs.cycle.bus_cycle.Tie as tie
 

@@ -1,6 +1,6 @@
 -- `chip::cycle::cut` meets its contract.
-use Rattle.chip.specs.Cycle.{cutOf}
-use Rattle.chip.proofs.Settled.{cut-length}
+use Rattle.device.specs.Cycle.{cutOf}
+use Rattle.device.proofs.Settled.{cut-length}
 use borrow.Author.Needs.{needs}
 use Rattle.chip.proofs.cycle.cut.Statement.{statement}
 use Rattle.chip.proofs.cycle.cut.Tie as tie

@@ -1,7 +1,7 @@
 -- `chip::cycle::is_veiled` meets its contract.
 use mathlib.Core.Path.{sym, _∙_}
 use borrow.Author.Tests.{not-true, not-false}
-use Rattle.chip.specs.Cycle.{veils}
+use Rattle.device.specs.Cycle.{veils}
 use borrow.Author.Needs.{needs}
 use Rattle.chip.proofs.cycle.is_veiled.Statement.{statement}
 use Rattle.chip.proofs.cycle.is_veiled.Tie as tie

@@ -1,7 +1,7 @@
 -- `chip::cycle::look` meets its contract.
 use mathlib.Core.Path.{sym, _∙_}
-use Rattle.chip.specs.Cycle.{readOf}
-use Rattle.chip.proofs.Cases.{unveiled}
+use Rattle.device.specs.Cycle.{readOf}
+use Rattle.device.proofs.Cases.{unveiled}
 use borrow.Author.Needs.{needs}
 use Rattle.chip.proofs.cycle.look.Statement.{statement}
 use Rattle.chip.proofs.cycle.look.Tie as tie

@@ -2,7 +2,7 @@
 use mathlib.Core.Path.{sym, _∙_}
 use mathlib.Core.Bool.{true}
 use native.Mathlib.Omega.{arith}
-use Rattle.chip.proofs.Bits.{bit7-le, bit6-le, bit2-le, no-bit2}
+use Rattle.device.proofs.Bits.{bit7-le, bit6-le, bit2-le, no-bit2}
 use borrow.Author.Needs.{needs}
 use Rattle.chip.proofs.cycle.look_busy.Statement.{statement}
 use Rattle.chip.proofs.cycle.look_busy.Tie as tie

@@ -1,7 +1,7 @@
 -- `chip::cycle::look_veiled` meets its contract.
 use native.Mathlib.Omega.{arith}
 use mathlib.Core.Bool.{true}
-use Rattle.chip.proofs.Bits.{bit2-le}
+use Rattle.device.proofs.Bits.{bit2-le}
 use borrow.Author.Needs.{needs}
 use Rattle.chip.proofs.cycle.look_veiled.Statement.{statement}
 use Rattle.chip.proofs.cycle.look_veiled.Tie as tie

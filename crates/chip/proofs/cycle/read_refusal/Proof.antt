@@ -1,5 +1,5 @@
 -- `chip::cycle::read_refusal` meets its contract.
-use Rattle.chip.specs.Cycle.{actionRefusal}
+use Rattle.device.specs.Cycle.{actionRefusal}
 use Rattle.parts.proofs.Rules.{tests}
 use Rattle.chip.proofs.cycle.read_refusal.Statement.{statement}
 use Rattle.chip.proofs.cycle.read_refusal.Tie as tie

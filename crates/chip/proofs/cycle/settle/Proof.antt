@@ -1,7 +1,7 @@
 -- `chip::cycle::settle` meets its contract.
 use mathlib.Core.Path.{refl}
 use borrow.Author.Tests.{lt-ltb, le-ltb}
-use Rattle.chip.specs.Cycle.{settledOf}
+use Rattle.device.specs.Cycle.{settledOf}
 use borrow.Author.Needs.{needs}
 use Rattle.chip.proofs.cycle.settle.Statement.{statement}
 use Rattle.chip.proofs.cycle.settle.Tie as tie

@@ -1,6 +1,6 @@
 -- `chip::cycle::tells_of` meets its contract.
 use borrow.Author.Tests.{not-true, not-false, eq-eqb, ne-eqb}
-use Rattle.chip.specs.Cycle.{tells}
+use Rattle.device.specs.Cycle.{tells}
 use borrow.Author.Needs.{needs}
 use Rattle.chip.proofs.cycle.tells_of.Statement.{statement}
 use Rattle.chip.proofs.cycle.tells_of.Tie as tie

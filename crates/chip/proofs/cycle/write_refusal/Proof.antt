@@ -2,7 +2,7 @@
 use mathlib.Core.Path.{sym, _∙_}
 use borrow.Author.Needs.{needs}
 use borrow.Author.Tests.{not-true, not-false}
-use Rattle.chip.specs.Cycle.{actionRefusal}
+use Rattle.device.specs.Cycle.{actionRefusal}
 use Rattle.parts.proofs.Rules.{tests}
 use Rattle.chip.proofs.cycle.write_refusal.Statement.{statement}
 use Rattle.chip.proofs.cycle.write_refusal.Tie as tie

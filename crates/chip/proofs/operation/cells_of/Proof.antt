@@ -1,6 +1,6 @@
 -- `chip::operation::cells_of` meets its contract.
 use borrow.Author.Needs.{needs}
-use Rattle.chip.specs.Operation.{cellsOf}
+use Rattle.device.specs.Operation.{cellsOf}
 use Rattle.parts.proofs.Rules.{tests}
 use Rattle.chip.proofs.operation.cells_of.Statement.{statement}
 use Rattle.chip.proofs.operation.cells_of.Tie as tie

@@ -4,10 +4,10 @@ use mathlib.Core.Path.{_≡_, ap, _∙_}
 use native.Mathlib.Omega.{arith}
 use lib.ListN.{take, drop, getD, set}
 use borrow.Author.Needs.{needs}
-use Rattle.chip.specs.Operation.{completeOn, finished}
+use Rattle.device.specs.Operation.{completeOn, finished}
 use Rattle.parts.specs.Width.{blankOf}
 use Rattle.parts.specs.declared.span.Span.{Span}
-use Rattle.chip.proofs.Leaves.{program-there, stored, came-back, map-same, finished-program, finished-erase}
+use Rattle.device.proofs.Leaves.{program-there, stored, came-back, map-same, finished-program, finished-erase}
 use Rattle.parts.proofs.Values.{blank-word}
 use Rattle.chip.proofs.operation.complete.Statement.{statement}
 use Rattle.chip.proofs.operation.complete.Tie as tie

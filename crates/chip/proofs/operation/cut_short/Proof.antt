@@ -5,10 +5,10 @@ use native.Mathlib.Omega.{arith}
 use lib.ListN.{take, drop, getD, set}
 use lib.Bits.{bitOr}
 use borrow.Author.Needs.{needs}
-use Rattle.chip.specs.Operation.{cutOn, scarred}
+use Rattle.device.specs.Operation.{cutOn, scarred}
 use Rattle.parts.specs.Width.{valueOf}
 use Rattle.parts.specs.declared.span.Span.{Span}
-use Rattle.chip.proofs.Leaves.{program-there, stored, came-back, map-same, scarred-program, scarred-erase}
+use Rattle.device.proofs.Leaves.{program-there, stored, came-back, map-same, scarred-program, scarred-erase}
 use Rattle.chip.proofs.operation.cut_short.Statement.{statement}
 use Rattle.chip.proofs.operation.cut_short.Tie as tie
 

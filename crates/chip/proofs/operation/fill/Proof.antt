@@ -3,7 +3,7 @@ use Prim.Native.Nat.{_≤_, _-_}
 use mathlib.Core.Path.{_≡_, _∙_}
 use lib.ListN.{length}
 use borrow.Author.Needs.{needs}
-use Rattle.chip.proofs.Over.{reached, reached-step, reached-all}
+use Rattle.device.proofs.Over.{reached, reached-step, reached-all}
 use Rattle.chip.proofs.operation.fill.Statement.{statement}
 use Rattle.chip.proofs.operation.fill.Tie as tie
 

@@ -3,7 +3,7 @@ use mathlib.Core.Path.{ap}
 use lib.Dec.{ltb}
 use borrow.Author.Needs.{needs}
 use borrow.Author.Tests.{eq-eqb, ne-eqb}
-use Rattle.chip.specs.Sequence.{ignored}
+use Rattle.device.specs.Sequence.{ignored}
 use Rattle.parts.specs.declared.span.Span.{Span}
 use Rattle.chip.proofs.sequence.is_ignored.Statement.{statement}
 use Rattle.chip.proofs.sequence.is_ignored.Tie as tie

@@ -1,6 +1,6 @@
 -- `chip::sequence::is_passed_over` meets its contract.
 use mathlib.Core.Path.{sym, _∙_}
-use Rattle.chip.specs.Sequence.{passedOver}
+use Rattle.device.specs.Sequence.{passedOver}
 use borrow.Author.Needs.{needs}
 use Rattle.chip.proofs.sequence.is_passed_over.Statement.{statement}
 use Rattle.chip.proofs.sequence.is_passed_over.Tie as tie

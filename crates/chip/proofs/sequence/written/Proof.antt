@@ -1,6 +1,6 @@
 -- `chip::sequence::written` meets its contract.
 use mathlib.Core.Path.{sym, _∙_}
-use Rattle.chip.specs.Sequence.{writtenOf}
+use Rattle.device.specs.Sequence.{writtenOf}
 use borrow.Author.Needs.{needs}
 use Rattle.chip.proofs.sequence.written.Statement.{statement}
 use Rattle.chip.proofs.sequence.written.Tie as tie
