@@ -165,7 +165,7 @@ pub record Demand2 : Type 0 where
       cycleRefusal part (length (k .cells)) (k .device) (Write a x) ≡ 0 → k .device .core .running .left ≤ e → k .device .stage ≡ 0 → x % 256 ≡ 0x30
       → after part k (cycle e wp (Write a x)) .device ≡ device (core ReadMode false false (restarted (h .device .core .suspended)) noOperation) 0
   -- The parts that can are 7 to 10; on the others nothing is suspended in any state in range, and B0H and 30H are what they were.
-  pub parts-that-suspend : (part : ℕ) → partRefusal part ≡ 0 → rowOf part .suspends ≡ leb 7 part
+  pub parts-that-suspend : (part : ℕ) → partRefusal part ≡ 0 → rowOf part .suspends ≡ pick (leb 7 part) (leb part 10) false
   pub writes-plainly : (part : ℕ) → rowOf part .suspends ≡ false → (d : Device) (wp : Bool) (a x : ℕ) → deviceInRange (rowOf part) d ≡ true
       → (held (d .core) ≡ false) × (writtenOf (rowOf part) d wp a x ≡ pick (busy (d .core)) d (afterEffect (rowOf part) (d .core) wp a x (effectOf (rowOf part) (d .stage) a x)))
   -- A command's writes, sent at 0 µs, leave the cells as they were and the device running the operation asked for, with its

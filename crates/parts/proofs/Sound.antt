@@ -45,13 +45,15 @@ at-from f k (l ∷ ls) e (suc n) h =
     rw z (at-from f (suc k) ls (both (f k (rowFrom l)) (everyFrom f (suc k) ls) e .1) n (le-of-suc-le-suc h))
 
 -- an erase can be suspended on parts 7 to 10, and on no other
-pub suspends-on : (n : ℕ) → partRefusal n ≡ 0 → rowOf n .suspends ≡ leb 7 n
+pub suspends-on : (n : ℕ) → partRefusal n ≡ 0 → rowOf n .suspends ≡ pick (leb 7 n) (leb n 10) false
 unfolding rowOf
 suspends-on n k =
     let z : 0 + n ≡ n = omega arith in
-    agree (rowFrom (getD lines n noLine) .suspends) (leb 7 n)
-    (rw z at (at-from (λ n r. pick (r .suspends) (leb 7 n) (not (leb 7 n))) 0 lines refl n (omega (arith, known n k))))
+    agree (rowFrom (getD lines n noLine) .suspends) (those n) (rw z at (at-from (λ n r. pick (r .suspends) (those n) (not (those n))) 0 lines refl n (omega (arith, known n k))))
   where
+    those : ℕ → Bool
+    those n = pick (leb 7 n) (leb n 10) false
+
     agree : (a b : Bool) → pick a b (not b) ≡ true → a ≡ b
     agree true true e = refl
     agree true false e = apart e
