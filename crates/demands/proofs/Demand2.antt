@@ -26,8 +26,7 @@ use Rattle.device.specs.Trace.{after, play, startedIn, uncutAction}
 use Rattle.device.specs.Recent.{DifferButSeven, recentOnce}
 use Rattle.device.proofs.Accepted.{accepted}
 use Rattle.device.proofs.Recent.{recent-exactly, word-later, word-after-completion}
-use Rattle.device.proofs.Suspended as Suspended
-use Rattle.device.proofs.Suspended.{suspended-is, stands, resumed-is, never-held}
+use Rattle.device.proofs.Suspended.{suspended-is, stands, resumed-by, resumed-is, as-before}
 use Rattle.device.proofs.Started.{started-append, reads-start, one-read-starts}
 use Rattle.driver.specs.declared.machine.Driver.{Driver}
 use Rattle.driver.specs.declared.machine.Started.{Started}
@@ -318,9 +317,10 @@ demand-2 =
       word-comes-after-completion = comes-after;
       erase-suspended = suspended-is;
       suspended-stands = stands;
+      resumed-by = resumed-by;
       erase-resumed = resumed-is;
       parts-that-suspend = suspends-on;
-      writes-plainly = λ part plain d wp a x i. (never-held (rowOf part) plain d i, Suspended.writes-plainly (rowOf part) plain d wp a x i);
+      others-as-before = λ part. as-before (rowOf part);
       writes-run = λ c accepted cells d wp i. let g = toWrite c in
           rw (c .promise, places-are (g .part) (g .command) (g .address) (g .word) accepted)
           (Theorems.writes-start (g .part) (g .command) (g .address) (g .word) wp cells d accepted (i .whole) (i .rests) (i .heeded) .0);

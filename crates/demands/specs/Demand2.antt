@@ -17,15 +17,15 @@ use Rattle.parts.specs.Time.{pollsOf}
 use Rattle.device.specs.declared.state.Device.{Device}
 use Rattle.device.specs.declared.state.Operation.{Operation}
 use Rattle.commands.specs.declared.effect.Mode.the-variants.{ReadMode}
-use Rattle.commands.specs.Commands.{effectOf}
-use Rattle.device.specs.Device.{noOperation, withLeft, restarted, core, busyWith, busy, held, device, rested, suspendable, deviceInRange, idle}
-use Rattle.device.specs.Sequence.{ignored, afterEffect, writtenOf}
+use Rattle.device.specs.Device.{operation, noOperation, core, busyWith, busy, held, device, rested, suspendable, deviceInRange, idle}
+use Rattle.device.specs.Sequence.{ignored}
+use Rattle.device.specs.declared.cycle.Action.{Action}
 use Rattle.device.specs.declared.cycle.Action.the-variants.{Read, Write}
 use Rattle.device.specs.declared.cycle.Cycle.{Cycle}
 use Rattle.device.specs.Cycle.{cycle, Chip, chip, afterTime, veils, cycleRefusal, actedOf}
 use Rattle.device.specs.Trace.{after, play, startedIn, uncutAction, uncut}
 use Rattle.device.specs.Recent.{DifferButSeven, recentOnce}
-use Rattle.device.specs.Suspended.{stays, Stands}
+use Rattle.device.specs.Suspended.{resumes, unresumed, Stands, AsBefore}
 use Rattle.driver.specs.declared.machine.Phase.{Phase}
 use Rattle.driver.specs.declared.machine.Phase.the-variants.{Writing, Polling, Confirming, Done, GaveUp, Differs}
 use Rattle.driver.specs.declared.machine.Step.{Step}
@@ -150,24 +150,32 @@ pub record Demand2 : Type 0 where
       → h ≡ record { part = g .part; cells = busLeft c .cells; device = busLeft c .reply .device; cycle = cycle t v (Read a) } → 0 < t
       → DifferButSeven (rowOf (g .part) .width) (c .back .value) (e .back .value)
   -- Document 02, Wish 2. B0H at any address while a sector or block erase runs, once the cycle's time has passed, on a part that can
-  -- suspend: suspended with what is left then, read mode, no sequence begun, and no cell changed.
+  -- suspend: suspended with what is left then, read mode, no sequence begun, and no cell changed; bits 6 and 2 begin at 1.
   pub erase-suspended : (part : ℕ) (h : Chip) (e : ℕ) (wp : Bool) (a x : ℕ) → cycleRefusal part (length (h .cells)) (h .device) (Write a x) ≡ 0
       → let o = h .device .core .running in
       e < o .left → suspendable (rowOf part) (o .kind) ≡ true → x % 256 ≡ 0xb0
-      → after part h (cycle e wp (Write a x)) ≡ chip (h .cells) (device (core ReadMode false false noOperation (restarted (withLeft o (o .left - e)))) 0)
+      → after part h (cycle e wp (Write a x))
+      ≡ chip (h .cells) (device (core ReadMode false false noOperation (operation (o .kind) (o .address) (o .«data») (o .left - e) true)) 0)
   -- Whatever is then read, written or waited, as long as it is not resumed and no power is cut, its time stands still, no cell of
   -- its range changes, and another cell only by a program that ran or was started there (`Stands`).
-  pub suspended-stands : (part : ℕ) (cs : List Cycle) (h : Chip) → uncut cs ≡ true → stays part h cs ≡ true → Stands (rowOf part) h (play part h cs) (startedIn part h cs)
-  -- After any such cycles 30H at any address, with nothing running once its cycle's time has passed and no sequence begun: the
-  -- erase runs on with what was left when it was suspended, and nothing is suspended.
-  pub erase-resumed : (part : ℕ) (cs : List Cycle) (h : Chip) → uncut cs ≡ true → stays part h cs ≡ true → (e : ℕ) (wp : Bool) (a x : ℕ)
+  pub suspended-stands : (part : ℕ) (cs : List Cycle) (h : Chip) → held (h .device .core) ≡ true → uncut cs ≡ true → unresumed part h cs ≡ true
+      → Stands (rowOf part) h (play part h cs) (startedIn part h cs)
+  -- 30H at any address, with nothing running once its cycle's time has passed and no sequence begun, resumes it,
+  pub resumed-by : (part : ℕ) (h : Chip) (e : ℕ) (wp : Bool) (a x : ℕ) → held (h .device .core) ≡ true
+      → cycleRefusal part (length (h .cells)) (h .device) (Write a x) ≡ 0
+      → h .device .core .running .left ≤ e → h .device .stage ≡ 0 → x % 256 ≡ 0x30 → resumes part h (cycle e wp (Write a x)) ≡ true
+  -- and the cycle that does so, after any of those above, leaves the erase running with what was left when it was suspended, read
+  -- mode, nothing suspended, and no cell changed but by what completes as its time passes; bits 6 and 2 begin at 1.
+  pub erase-resumed : (part : ℕ) (cs : List Cycle) (h : Chip) → held (h .device .core) ≡ true → uncut cs ≡ true → unresumed part h cs ≡ true
+      → (e : ℕ) (wp : Bool) (a : Action)
       → let k = play part h cs in
-      cycleRefusal part (length (k .cells)) (k .device) (Write a x) ≡ 0 → k .device .core .running .left ≤ e → k .device .stage ≡ 0 → x % 256 ≡ 0x30
-      → after part k (cycle e wp (Write a x)) .device ≡ device (core ReadMode false false (restarted (h .device .core .suspended)) noOperation) 0
-  -- The parts that can are 7 to 10; on the others nothing is suspended in any state in range, and B0H and 30H are what they were.
+      let o = h .device .core .suspended in
+      resumes part k (cycle e wp a) ≡ true
+      → after part k (cycle e wp a)
+      ≡ chip (afterTime (rowOf part) k e .cells) (device (core ReadMode false false (operation (o .kind) (o .address) (o .«data») (o .left) true) noOperation) 0)
+  -- The parts that can are 7 to 10; on the others all is as it was, B0H and 30H too.
   pub parts-that-suspend : (part : ℕ) → partRefusal part ≡ 0 → rowOf part .suspends ≡ pick (leb 7 part) (leb part 10) false
-  pub writes-plainly : (part : ℕ) → rowOf part .suspends ≡ false → (d : Device) (wp : Bool) (a x : ℕ) → deviceInRange (rowOf part) d ≡ true
-      → (held (d .core) ≡ false) × (writtenOf (rowOf part) d wp a x ≡ pick (busy (d .core)) d (afterEffect (rowOf part) (d .core) wp a x (effectOf (rowOf part) (d .stage) a x)))
+  pub others-as-before : (part : ℕ) → rowOf part .suspends ≡ false → (d : Device) → deviceInRange (rowOf part) d ≡ true → AsBefore (rowOf part) d
   -- A command's writes, sent at 0 µs, leave the cells as they were and the device running the operation asked for, with its
   -- whole table time left.
   pub writes-run : (c : WritesCall) → let g = toWrite c in refusedWrites g ≡ 0

@@ -24,10 +24,10 @@ use Rattle.device.specs.declared.cycle.Action.{Action}
 use Rattle.device.specs.declared.cycle.Action.the-variants.{Read, Write, Idle, Cut}
 use Rattle.device.specs.declared.cycle.Cycle.{Cycle}
 use Rattle.device.specs.declared.cycle.Shown.{Shown}
-use Rattle.device.specs.Device.{noOperation, pending, busy, held, device, withCore, freshDevice, core, inMode, busyWith, agedBy, validSuspended, deviceInRange}
+use Rattle.device.specs.Device.{noOperation, pending, busy, held, device, withCore, freshDevice, core, inMode, busyWith, agedBy, validSuspended, suspendable, deviceInRange}
 use Rattle.commands.specs.Commands.{broken, effectOf}
 use Rattle.device.specs.Operation.{cellsOf, over, scarred, cutOn}
-use Rattle.device.specs.Sequence.{suspending, resuming, afterEffect, writtenOf}
+use Rattle.device.specs.Sequence.{resuming, afterEffect, writtenOf}
 use Rattle.device.specs.Cycle.{cycle, Chip, chip, Outcome, outcome, identity, veils, outputsOf, readOf, cutOf, settledOf, Settled, afterTime, actionRefusal, cycleRefusal, actedOf, acceptedOf, cycleOf}
 use Rattle.device.specs.Trace.{leaves, after, play, effectStarts, actionStarts, startedBy, startedIn}
 use Rattle.device.proofs.Accepted.{accepted}
@@ -60,14 +60,19 @@ module _ (part : ℕ) (cells : List ℕ) (d : Device) (e : ℕ) (wp : Bool) wher
       let w = accepted part (length cells) d a z in
       accepted-cycle part cells d (cycle e wp Idle) (record { known = w .known; whole = w .whole; state = w .state; reach = refl })
 
-  -- A write while busy does nothing, but B0H where it suspends: it is as idle time.
-  pub busy-write : (a x : ℕ) → Taken (Write a x) → e < d .core .running .left → suspending (rowOf part) (d .core) x ≡ false → gives (Write a x) ≡ gives Idle
+  -- A write while busy does nothing, but B0H where what runs can be suspended: it is as idle time.
+  pub busy-write : (a x : ℕ) → Taken (Write a x) → e < d .core .running .left → (suspendable (rowOf part) (d .core .running .kind) ≡ true → x % 256 ≡ 0xb0 → ⊥)
+      → gives (Write a x) ≡ gives Idle
   unfolding acceptedOf settledOf writtenOf
   busy-write a x z l n =
       let left = d .core .running .left in
       let same : acceptedOf (rowOf part) cells d (cycle e wp (Write a x)) ≡ acceptedOf (rowOf part) cells d (cycle e wp Idle)
-      = simp (lt-ltb 0 left (omega arith), lt-ltb e left l, lt-ltb 0 (left - e) (omega arith), n) in
+      = simp (lt-ltb 0 left (omega arith), lt-ltb e left l, lt-ltb 0 (left - e) (omega arith), kept (suspendable (rowOf part) (d .core .running .kind)) n) in
       taken (Write a x) z ∙ (same ∙ sym (idles (Write a x) z))
+    where
+      kept : (b : Bool) → (b ≡ true → x % 256 ≡ 0xb0 → ⊥) → pick b (eqb (x % 256) 0xb0) false ≡ false
+      kept true n = ne-eqb (x % 256) 0xb0 (n refl)
+      kept false n = refl
 
   -- A read disturbs no sequence, in any mode: the stage and the mode are what they were.
   pub read-keeps-stage : (a : ℕ) → gives (Read a) .reply .device .stage ≡ d .stage
@@ -169,10 +174,10 @@ nothing : {A : Type 0} (o : Operation) (os : List Operation) → [] ≡ o ∷ os
 nothing o os q = let z : _≡_ {A = ℕ} 0 (suc (length os)) = ap length q in absurd (omega arith)
 
 pub start-ends-modes : (part : ℕ) (h : Chip) (c : Cycle) (o : Operation) (os : List Operation) → startedBy part h c ≡ o ∷ os
-    → after part h c .device ≡ device (busyWith (h .device .core) o) 0
+    → after part h c .device ≡ device (core ReadMode false false o (h .device .core .suspended)) 0
 unfolding after startedBy cycleOf acceptedOf writtenOf
 start-ends-modes part h c o os =
-    twice (λ (out : Outcome) (ops : List Operation). ops ≡ o ∷ os → out .reply .device ≡ device (busyWith (h .device .core) o) 0)
+    twice (λ (out : Outcome) (ops : List Operation). ops ≡ o ∷ os → out .reply .device ≡ device (core ReadMode false false o (h .device .core .suspended)) 0)
     (eqb (cycleRefusal part (length (h .cells)) (h .device) (c .action)) 0) _ _ _ _ (λ _. acts (c .action)) (λ _ q. nothing o os q)
   where
     r : Row
@@ -201,7 +206,8 @@ start-ends-modes part h c o os =
     same : s .device .core .suspended ≡ h .device .core .suspended
     same = time-holds r (h .cells) (h .device .core) (c .elapsed)
 
-    acts : (a : Action) → actionStarts r (s .device) (c .wp) a ≡ o ∷ os → actedOf r s (c .wp) a .reply .device ≡ device (busyWith (h .device .core) o) 0
+    acts : (a : Action) → actionStarts r (s .device) (c .wp) a ≡ o ∷ os
+        → actedOf r s (c .wp) a .reply .device ≡ device (core ReadMode false false o (h .device .core .suspended)) 0
     acts (Read a) q = nothing o os q
     acts (Write a x) q = writes (c .wp) a x q ∙ ap (λ (u : Operation). device (core ReadMode false false o u) 0) same
     acts Idle q = nothing o os q

@@ -101,7 +101,7 @@ pub record Partly (part : ℕ) (cells : List ℕ) (first : ℕ) (image : List �
   pub answer : l .report .answer ≡ 0
 
 -- a list of bus cycles that also loads the image: from the same cells and an idle device, without cut, block or chip erase, to a device that is idle, or is so
--- some time later, as it is where the last operation has just completed
+-- some time later, as it is where the last operation has just completed. It may suspend erases and resume them
 pub record Rival (part : ℕ) (cells : List ℕ) (first : ℕ) (image : List ℕ) (d : Device) (cs : List Cycle) : Type 0 where
   pub begins : idle d ≡ true
   pub uncut : uncutAll cs ≡ true
