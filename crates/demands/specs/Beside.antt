@@ -222,6 +222,10 @@ abbrev pub holds : List Case
 holds =
     -- while it runs bit 6 alternates at each read, bit 2 at those of the range; it is 0 elsewhere
     onSeven (erasing (read 0 2048 ∷ read 0 2047 ∷ read 0 4095 ∷ read 0 4096 ∷ read 0 2048 ∷ [])) (0x44 ∷ 0x00 ∷ 0x40 ∷ 0x00 ∷ 0x44 ∷ []) [] true
+    -- no other write than B0H does anything then
+    ∷ onSeven (erasing (write 0 0x30 ∷ write 0 0xf0 ∷ write 0x5555 0xaa ∷ read 0 2048 ∷ [])) (0x44 ∷ []) [] true
+    -- bits 6 and 2 begin at 1 at each start, suspend and resume
+    ∷ onSeven (erasing (read 0 2048 ∷ write 0 0xb0 ∷ read 0 2048 ∷ write 0 0x30 ∷ read 0 2048 ∷ [])) (0x44 ∷ 0xc4 ∷ 0x44 ∷ []) [] true
     -- suspended, read inside and outside, a program outside, which takes 28 µs and is read as it ends, and inside then; resumed, and done
     ∷ onSeven
     (suspended
@@ -243,10 +247,15 @@ holds =
     -- a program into the range is ignored, at both its ends; beside them it starts
     ∷ onSeven (suspended (programs 2048 0 (read 0 4096 ∷ read 0 2048 ∷ programs 4095 0 (read 0 4095 ∷ [])))) (0x1234 ∷ 0xc4 ∷ 0xc0 ∷ []) [] false
     ∷ onSeven (suspended (programs 2047 0 (read 0 2048 ∷ read 29 2047 ∷ []))) (0xc0 ∷ 0 ∷ []) [] false
+    -- with WP# low so is one into the protected block, 0 to 32,767; past it it starts
+    ∷ onSeven (suspended (armLow 0x5555 0x2aaa ++ (writeLow 32767 0 ∷ read 0 32767 ∷ read 0 2048 ∷ []))) (0x1234 ∷ 0xc4 ∷ []) [] false
+    ∷ onSeven (suspended (armLow 0x5555 0x2aaa ++ (writeLow 32768 0 ∷ read 0 2048 ∷ []))) (0xc0 ∷ []) [] true
     -- any erase is ignored: of a sector, a block, the chip
     ∷ onSeven (suspended (unlock 0x5555 0x2aaa ++ (write 8192 0x30 ∷ read 0 8192 ∷ read 0 2048 ∷ []))) (0x1234 ∷ 0xc4 ∷ []) [] false
     ∷ onSeven (suspended (unlock 0x5555 0x2aaa ++ (write 65536 0x50 ∷ read 0 65536 ∷ read 0 2048 ∷ []))) (0x1234 ∷ 0xc4 ∷ []) [] false
     ∷ onSeven (suspended (unlock 0x5555 0x2aaa ++ (write 0x5555 0x10 ∷ read 0 0 ∷ read 0 2048 ∷ []))) (0x1234 ∷ 0xc4 ∷ []) [] false
+    -- and what is ignored returns to read mode
+    ∷ onSeven (suspended (identify 0x5555 0x2aaa ++ (unlock 0x5555 0x2aaa ++ (write 8192 0x30 ∷ read 0 0 ∷ [])))) (0x1234 ∷ []) [] false
     -- 30H with a sequence begun breaks it, or is a program's data
     ∷ onSeven (suspended (write 0x5555 0xaa ∷ write 0 0x30 ∷ read 0 2048 ∷ write 0 0x30 ∷ read 0 2048 ∷ [])) (0xc4 ∷ 0x44 ∷ []) [] true
     ∷ onSeven (suspended (programs 4096 0x30 (read 29 4096 ∷ read 0 2048 ∷ []))) (0x30 ∷ 0xc4 ∷ []) [] false
