@@ -1,7 +1,7 @@
 // One bus cycle: refusals in order; then time passes; then the cycle acts.
-use crate::operation::cells_of;
 use crate::operation::complete;
 use crate::operation::cut_short;
+use crate::sequence::suspends;
 use crate::sequence::written;
 use crate::state::aged_by;
 use crate::state::at_rest;
@@ -10,6 +10,7 @@ use crate::state::is_busy;
 use crate::state::is_held;
 use crate::state::is_pending;
 use crate::state::reads_cells;
+use crate::state::suspend;
 use crate::state::toggled;
 use crate::state::with_core;
 use crate::state::with_left;
@@ -25,21 +26,26 @@ use device::Reply;
 use device::Shown;
 use parts::Found;
 use parts::Row;
+use parts::Span;
 use parts::names::BAD_STATE;
 use parts::names::BIT_2;
 use parts::names::BIT_6;
 use parts::names::BIT_7;
+use parts::names::BLOCK;
 use parts::names::NO_ADDRESS;
+use parts::names::NONE_BEGUN;
 use parts::names::PROGRAM;
+use parts::names::SECTOR;
 use parts::names::WIDE_DATA;
 use parts::names::WRONG_CELLS;
 ghost use mathlib.Core.Path.{_≡_};
 ghost use Prim.Native.Nat.{_+_, _<_, _≤_};
 ghost use lib.ListN.{length};
 ghost use mathlib.Core.Bool.{true};
-ghost use Rattle.device.specs.Cycle.{actedOf, actionRefusal, bit2, bit6, bit7, chip, cutOf, cutShort, cycleOf, cycleRefusalOn, identity, inverted, modeShows, outputsOf, readOf, settledOf, showing, shownOf, status, tells, turnedBy, veil, veils};
+ghost use Rattle.device.specs.Cycle.{actedOf, actionRefusal, bit2, bit6, bit7, chip, cutOf, cutShort, cycleOf, cycleRefusalOn, identity, inverted, modeShows, outputsOf, readOf, reply, settledOf, showing, shownOf, status, tells, turnedBy, veil, veils};
 ghost use Rattle.device.specs.Device.{pending, toggled, withRunning};
 ghost use Rattle.device.specs.Operation.{cellsOf};
+ghost use Rattle.device.specs.Sequence.{writtenOf};
 ghost use Rattle.device.specs.Needs.{InWords, RunsInside};
 
 // The refusal of an address and data to write.
@@ -133,18 +139,31 @@ fn bit_6(o: Operation) -> u16
     0
 }
 
-// Whether bit 2 tells of an erase at an address: in its range, on the parts that can suspend one.
+// Whether bit 2 tells of an erase at an address: in its range, on the parts that can suspend one. The range is not made: each poll of
+// an erase asks this.
 fn tells_of(row: Row, o: Operation, a: u32) -> bool
     ensures { λ r. ⌜ r ≡ tells row o a ⌝ }
 {
     if !row.suspends {
         return false;
     }
-    if o.kind == PROGRAM {
+    let kind = o.kind;
+    if kind == PROGRAM {
         return false;
     }
-    let range = cells_of(row, o);
-    range.holds(a)
+    if kind == SECTOR {
+        let sector = row.sector_of(o.address);
+        return sector.holds(a);
+    }
+    if kind == BLOCK {
+        let block = row.block_of(o.address);
+        return block.holds(a);
+    }
+    let chip = Span {
+        first: 0,
+        count: row.cells,
+    };
+    chip.holds(a)
 }
 
 // Bit 2 where it tells of an erase.
@@ -320,6 +339,28 @@ fn read_cycle(cells: &[u16], row: Row, d: Device, a: u32) -> Reply
     }
 }
 
+// A write to a device.
+fn write_cycle(row: Row, d: Device, wp: bool, a: u32, x: u16) -> Reply
+    ensures { λ r. ⌜ r ≡ reply 0 0 (writtenOf row d wp a x) ⌝ }
+{
+    let core = d.core;
+    if suspends(row, core, x) {
+        return Reply {
+            answer: 0,
+            value: 0,
+            device: Device {
+                core: suspend(core),
+                stage: NONE_BEGUN,
+            },
+        };
+    }
+    Reply {
+        answer: 0,
+        value: 0,
+        device: written(row, d, wp, a, x),
+    }
+}
+
 // The cycle acts.
 fn act(cells: &mut [u16], row: Row, d: Device, wp: bool, action: Action) -> Reply
     requires { ⌜ InWords row ⌝ }
@@ -329,11 +370,7 @@ fn act(cells: &mut [u16], row: Row, d: Device, wp: bool, action: Action) -> Repl
 {
     match action {
         Action::Read(a) => read_cycle(&*cells, row, d, a),
-        Action::Write(a, x) => Reply {
-            answer: 0,
-            value: 0,
-            device: written(row, d, wp, a, x),
-        },
+        Action::Write(a, x) => write_cycle(row, d, wp, a, x),
         Action::Idle => Reply {
             answer: 0,
             value: 0,

@@ -6,7 +6,6 @@ use crate::state::is_busy;
 use crate::state::is_held;
 use crate::state::is_suspendable;
 use crate::state::resume;
-use crate::state::suspend;
 use commands::Effect;
 use commands::Mode;
 use device::Core;
@@ -18,6 +17,9 @@ use parts::names::NONE_BEGUN;
 use parts::names::RESUME_CODE;
 use parts::names::SUSPEND_CODE;
 ghost use mathlib.Core.Path.{_≡_};
+ghost use mathlib.Core.Bool.{false};
+ghost use Rattle.parts.specs.Pick.{pick};
+ghost use Rattle.device.specs.Device.{busy};
 ghost use Rattle.device.specs.Sequence.{afterEffect, coreAfter, ignored, passedOver, resuming, suspending, writtenOf};
 
 // Whether WP# protects from a command at an address.
@@ -79,13 +81,16 @@ fn after_effect(row: Row, core: Core, wp: bool, a: u32, x: u16, effect: Effect) 
     }
 }
 
-// Whether a write suspends what runs.
-fn suspends(row: Row, core: Core, x: u16) -> bool
-    ensures { λ r. ⌜ r ≡ suspending row core x ⌝ }
+// Whether a write suspends what runs. Few writes have its byte, which is asked first.
+pub(crate) fn suspends(row: Row, core: Core, x: u16) -> bool
+    ensures { λ r. ⌜ r ≡ pick (busy core) (suspending row core x) false ⌝ }
 {
-    let o = core.running;
-    if is_suspendable(row, o.kind) {
-        return x % 256 == SUSPEND_CODE;
+    if x % 256 != SUSPEND_CODE {
+        return false;
+    }
+    if is_busy(core) {
+        let o = core.running;
+        return is_suspendable(row, o.kind);
     }
     false
 }
@@ -94,28 +99,23 @@ fn suspends(row: Row, core: Core, x: u16) -> bool
 fn resumes(core: Core, stage: u32, x: u16) -> bool
     ensures { λ r. ⌜ r ≡ resuming core stage x ⌝ }
 {
-    if !is_held(core) {
+    if x % 256 != RESUME_CODE {
         return false;
     }
     if stage == NONE_BEGUN {
-        return x % 256 == RESUME_CODE;
+        return is_held(core);
     }
     false
 }
 
-// A write: while busy it suspends or does nothing; else it resumes, or has its effect.
+// A write that does not suspend: while busy it does nothing; else it resumes, or has its effect.
 pub(crate) fn written(row: Row, d: Device, wp: bool, a: u32, x: u16) -> Device
+    requires { ⌜ pick (busy (d .core)) (suspending row (d .core) x) false ≡ false ⌝ }
     ensures { λ r. ⌜ r ≡ writtenOf row d wp a x ⌝ }
 {
     let core = d.core;
     let stage = d.stage;
     if is_busy(core) {
-        if suspends(row, core, x) {
-            return Device {
-                core: suspend(core),
-                stage: NONE_BEGUN,
-            };
-        }
         return d;
     }
     if resumes(core, stage, x) {

@@ -16,7 +16,7 @@ returns : tie.Need-returns
 returns c = simp (c .before .before .before .action .given .1) (c .read-cycle .ensures, refl)
 
 returns-2 : tie.Need-returns-2
-returns-2 c = simp (c .before .before .action2 .given .1, c .written .ensures) (refl, refl)
+returns-2 c = simp (c .before .before .action2 .given .1, c .write-cycle .ensures) (refl, refl)
 
 returns-3 : tie.Need-returns-3
 returns-3 c = simp (c .enum-told .given .1) (refl, refl)
