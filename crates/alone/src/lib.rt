@@ -1,5 +1,7 @@
 // The job alone, as the program station links it: where nothing else calls the model and the driver, the compiler puts both in their
 // place in the job's loop.
+#![tactic(auto)]
+
 ghost use Rattle.std.specs.Prelude.{◌≡◌};
 ghost use Rattle.bus.specs.Cycle.{high};
 ghost use Rattle.job.specs.Bill.{load_of};

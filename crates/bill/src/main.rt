@@ -1,5 +1,7 @@
 // The program `bill`: reads a job file of at most 20,480 bytes from standard input, and prints its bill on a blank bench
 // part; of a refusal only its answer line.
+#![tactic(auto)]
+
 use job::Bill;
 
 // One line: what it is, and the number.

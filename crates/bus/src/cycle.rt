@@ -15,7 +15,7 @@ const NO_STAGE: u32 = 7;
 
 // An operation as numbers: toggle 0 or 1.
 #[repr(C)]
-#[derive(Drop)]
+#[derive(Clone, Copy)]
 pub struct OperationNumbers {
     pub kind: u32,
     pub address: u32,
@@ -27,7 +27,7 @@ pub struct OperationNumbers {
 // A device as numbers: mode 0 read, 1 identification; recent 1 while a completion is 0 µs old, else 0; turned 1 where the next
 // read that shows bit 2 shows it as 0, else 0.
 #[repr(C)]
-#[derive(Drop)]
+#[derive(Clone, Copy)]
 pub struct DeviceNumbers {
     pub mode: u32,
     pub stage: u32,
@@ -39,7 +39,7 @@ pub struct DeviceNumbers {
 
 // The answer, 0 or a refusal; the value read; the device afterwards.
 #[repr(C)]
-#[derive(Drop)]
+#[derive(Clone, Copy)]
 pub struct ReplyNumbers {
     pub answer: u32,
     pub value: u16,

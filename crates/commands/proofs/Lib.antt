@@ -1,4 +1,3 @@
 pub mod Effects
 pub mod Determined
 pub mod Broken
-pub mod Listed

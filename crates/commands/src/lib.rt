@@ -1,4 +1,6 @@
 // The table of commands: what follows from a write, by the stage of the sequence.
+#![tactic(auto)]
+
 mod effect;
 mod write;
 

@@ -1,5 +1,5 @@
 // A write of a command.
-#[derive(Drop)]
+#[derive(Clone, Copy)]
 pub struct Write {
     pub address: u32,
     pub data: u16,

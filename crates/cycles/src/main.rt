@@ -1,5 +1,7 @@
 // The program `cycles`: programs random words over the whole of a blank part 8 by bare bus cycles, and prints how many were
 // sent and the sum of what they answered and showed. How long it takes is measured from outside.
+#![tactic(auto)]
+
 ghost use Rattle.std.specs.Prelude.{◌≡◌, length};
 
 use device::{Action, Cycle, Device};
@@ -17,7 +19,7 @@ fn line(label: &[u8], n: u64) {
 }
 
 // The device, how many cycles were sent, and the sum of all that they answered and showed.
-#[derive(Drop)]
+#[derive(Clone, Copy)]
 struct Played {
     device: Device,
     sent: u64,

@@ -45,9 +45,9 @@ by-definition image =
       calls = λ g seen read. let t = load_turn_of g image seen read in
           record {
             lifetimes = ([], ([], tt));
-            given = (g, (record { ref_ptr = (0, 0); now = image }, (record { ref_ptr = (0, 0); now = seen }, (read, tt))));
+            given = (g, (record { ref_ptr = (0, 0); now = image }, (record { ref_ptr = (0, 0); ghost_name = 0; now = seen }, (read, tt))));
             back = t.turn;
-            ends = (g, (record { ref_ptr = (0, 0); now = image }, (record { ref_ptr = (0, 0); now = t.seen }, (read, tt))));
+            ends = (g, (record { ref_ptr = (0, 0); now = image }, (record { ref_ptr = (0, 0); ghost_name = 0; now = t.seen }, (read, tt))));
             promise = (refl, refl);
           };
       given = λ g seen read. refl;

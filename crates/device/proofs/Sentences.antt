@@ -13,7 +13,6 @@ use Rattle.parts.specs.Table.{row_of, part_refusal}
 use Rattle.parts.specs.Span.{has_blocks}
 use Rattle.parts.specs.declared.table.Row.{Row}
 use Rattle.parts.proofs.Every.{pick_same, split}
-use Rattle.parts.proofs.Sound.{known}
 use Rattle.commands.specs.declared.effect.Mode.TheVariants.{ReadMode, Identification}
 use Rattle.device.specs.declared.state.Operation.{Operation}
 use Rattle.device.specs.declared.state.Core.{Core}
@@ -29,7 +28,7 @@ use Rattle.commands.specs.Commands.{broken, effect_of}
 use Rattle.device.specs.Operation.{cells_of, over, scarred, cut_on}
 use Rattle.device.specs.Sequence.{resuming, after_effect, written_of}
 use Rattle.device.specs.Cycle.{cycle, Chip, chip, Outcome, outcome, identity, veils, outputs_of, read_of, cut_of, settled_of, Settled, after_time, action_refusal, cycle_refusal, acted_of, accepted_of, cycle_of}
-use Rattle.device.specs.Trace.{leaves, after, play, effect_starts, action_starts, started_by, started_in}
+use Rattle.device.specs.Trace.{after, play, effect_starts, action_starts, started_by, started_in}
 use Rattle.device.proofs.Accepted.{accepted}
 use Rattle.device.proofs.Cases.{accepted-cycle, refused-cycle, rests, read-at-rest, write-leaves, write-starts}
 use Rattle.commands.proofs.Effects.{effect_is}

@@ -1,5 +1,7 @@
 // What the documents say of a chip: the state of a device, what a bus cycle does to it and to the cells, by definition in specs/, and the
 // laws of that in proofs/. Crate chip has the code that does so.
+#![tactic(auto)]
+
 mod cycle;
 mod state;
 

@@ -2,7 +2,7 @@ pub mod Asked
 pub mod Places
 pub mod Nth
 pub mod Ready
-pub mod Kth
+pub mod KthWrites
 pub mod Polls
 pub mod Steps
 pub mod Talks

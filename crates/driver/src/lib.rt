@@ -1,4 +1,6 @@
 // The driver of the chips: the writes of a command, and a machine that performs one program, sector, block or chip erase.
+#![tactic(auto)]
+
 mod machine;
 mod refusals;
 mod writes;

@@ -15,7 +15,7 @@ use parts::{Found, Row};
 pub const CONFIRM_AFTER: u32 = 1;
 
 // The writes are named one by one; then polls; then the confirming read; then one of three ends.
-#[derive(Drop)]
+#[derive(Clone, Copy)]
 pub enum Phase {
     Writing,
     Polling,
@@ -26,7 +26,7 @@ pub enum Phase {
 }
 
 // What is asked, and how far it is: the writes named so far, and from the polling on the polls.
-#[derive(Drop)]
+#[derive(Clone, Copy)]
 pub struct Driver {
     pub part: u32,
     pub command: u32,
@@ -38,7 +38,7 @@ pub struct Driver {
 }
 
 // A start: 0 or the refusal, and the driver.
-#[derive(Drop)]
+#[derive(Clone, Copy)]
 pub struct Started {
     pub answer: u32,
     pub driver: Driver,
@@ -46,7 +46,7 @@ pub struct Started {
 
 // What a step names: nothing, or the µs since the last cycle and what the next one does. The
 // caller sets WP#.
-#[derive(Drop)]
+#[derive(Clone, Copy)]
 pub enum Next {
     Nothing,
     Send(u32, Action),
@@ -54,7 +54,7 @@ pub enum Next {
 
 // A step's answer: 0 with a cycle; 0, 11 or 12 at the end; or the refusal 5. Then the driver
 // handed back, the cycle, and the polls named so far.
-#[derive(Drop)]
+#[derive(Clone, Copy)]
 pub struct Step {
     pub answer: u32,
     pub driver: Driver,

@@ -10,7 +10,7 @@ use parts::Row;
 use parts::names::{BLOCK, NO_ENTRY, PROGRAM, SECTOR};
 
 // One command's writes: 0 or the refusal, how many they are, and the writes, unused places zero.
-#[derive(Drop)]
+#[derive(Clone, Copy)]
 pub struct Writes {
     pub answer: u32,
     pub count: u32,
@@ -18,7 +18,7 @@ pub struct Writes {
 }
 
 // One write: 0 or the refusal, its address and its data.
-#[derive(Drop)]
+#[derive(Clone, Copy)]
 pub struct Kth {
     pub answer: u32,
     pub address: u32,

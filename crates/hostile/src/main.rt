@@ -1,11 +1,13 @@
 // Drives the compiled driver against replies that no good chip gives. A line a run: the part, the command, the number of
 // the replies (as `reply` has them), then the ending, the cycles sent and the polls in the result; and once more the
 // ending and the polls, of a step after the end.
+#![tactic(auto)]
+
 use driver::{Driver, Next};
 use parts::names::BIT_7;
 
 // A command as it is started, and the value that its confirming read must equal.
-#[derive(Drop)]
+#[derive(Clone, Copy)]
 struct Task {
     part: u32,
     command: u32,

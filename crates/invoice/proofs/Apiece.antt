@@ -144,9 +144,9 @@ module _ (part : ℕ) where
     told-last [] a = refl
     told-last (s ∷ L) a = last-is (world cells none_sent) s L a
 
-    pub no_last : (L : List Sent) → cycles_in L ≡ [] → (play_of part (world cells none_sent) L).held.last ≡ no_last
-    no_last [] e = refl
-    no_last (s ∷ L) e = absurd (omega (arith, ap length e))
+    pub no-last : (L : List Sent) → cycles_in L ≡ [] → (play_of part (world cells none_sent) L).held.last ≡ no_last
+    no-last [] e = refl
+    no-last (s ∷ L) e = absurd (omega (arith, ap length e))
 
     pub shown-last : (L : List Sent) → (play_of part (world cells none_sent) L).held.reply ≡ last_shown part (chip cells fresh_device) (cycles_in L)
     shown-last [] = refl

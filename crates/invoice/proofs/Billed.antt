@@ -33,7 +33,7 @@ use Rattle.invoice.specs.Invoice.{started, places_sent, Invoice, Partly, Rival}
 use Rattle.device.proofs.Started.{started-all}
 use Rattle.invoice.proofs.ByKind.{only-those}
 use Rattle.invoice.proofs.Placed.{placed_as, contents, map-take, places-take}
-use Rattle.invoice.proofs.Apiece.{Counts, Apiece, apiece-take, apiece-counts, apiece-shows, told-last, no_last, shown-last}
+use Rattle.invoice.proofs.Apiece.{Counts, Apiece, apiece-take, apiece-counts, apiece-shows, told-last, no-last, shown-last}
 use Rattle.invoice.proofs.Starts.{world-plays}
 use Rattle.invoice.proofs.Image.{job-started}
 use Rattle.invoice.proofs.Least.{held, cells_left, image-left, others-left, job-times, no_less}
@@ -119,7 +119,7 @@ module _ (part : ℕ) (cells : List ℕ) (first : ℕ) (image : List ℕ) (wp : 
       (record {
         played = ap (λ (h : Chip). h.cells) (world-plays part w (take k L)) ∙ ap (λ (cs : List Cycle). (play part h cs).cells) e;
         last = told-last part cells (take k L) a ∙ ap last_in e;
-        zeros = λ z. no_last part cells (take k L) (e ∙ z);
+        zeros = λ z. no-last part cells (take k L) (e ∙ z);
         reply = shown-last part cells (take k L) ∙ ap (last_shown part h) e;
         erases = m.erases;
         programs = m.programs;

@@ -1,1 +1,2 @@
 // What the customer pays for, of every accepted job: mathematics only, in proofs/.
+#![tactic(auto)]

@@ -10,7 +10,7 @@ use parts::names::{PROGRAM, SECTOR};
 
 // The bill: µs saved and spent, then counts, the sum, and 0 or the refusal.
 #[repr(C)]
-#[derive(Drop)]
+#[derive(Clone, Copy)]
 pub struct Bill {
     pub saved: u64,
     pub spent: u64,
@@ -25,7 +25,7 @@ pub struct Bill {
 
 // What the second call hands back: 0 or the refusal, how many cycles were sent, the last one and its reply, counts and µs so far.
 #[repr(C)]
-#[derive(Drop)]
+#[derive(Clone, Copy)]
 pub struct Report {
     pub answer: u32,
     pub sent: u64,

@@ -1,4 +1,6 @@
 // The job: loads an image over whole sectors, erasing and programming only what is needed, and writes the bill.
+#![tactic(auto)]
+
 mod bill;
 mod loader;
 mod loading;

@@ -11,7 +11,7 @@ use parts::names::{BAD_STATE, PROGRAM, SECTOR};
 use values::Decision;
 
 // A job that was not refused: its part and row, the first address, the number of image values, WP# and p.
-#[derive(Drop)]
+#[derive(Clone, Copy)]
 pub struct Job {
     pub part: u32,
     pub row: Row,
@@ -23,7 +23,7 @@ pub struct Job {
 }
 
 // What an operation is for: a sector is erased, then filled; or a cell is burnt where it differs.
-#[derive(Drop)]
+#[derive(Clone, Copy)]
 pub enum Task {
     Erasing,
     Filling,
@@ -31,7 +31,7 @@ pub enum Task {
 }
 
 // What is done in a sector: it is read; unerased, looked at again; or an operation is driven.
-#[derive(Drop)]
+#[derive(Clone, Copy)]
 pub enum Stage {
     Scanning,
     Looking,
@@ -39,7 +39,7 @@ pub enum Stage {
 }
 
 // The stage, the image's index of the sector's first cell, and the cell in the sector.
-#[derive(Drop)]
+#[derive(Clone, Copy)]
 pub struct Loader {
     pub stage: Stage,
     pub base: u32,
@@ -47,7 +47,7 @@ pub struct Loader {
 }
 
 // Why a cycle is sent: a scan's read, a write in front of a command's last one, that one, a poll, the confirming read.
-#[derive(Drop)]
+#[derive(Clone, Copy)]
 pub enum Purpose {
     Scan,
     Lead,
@@ -57,7 +57,7 @@ pub enum Purpose {
 }
 
 // The next cycle with its purpose, or the end: 0, or what a driver ended with.
-#[derive(Drop)]
+#[derive(Clone, Copy)]
 pub enum Turn {
     Play(Loader, Purpose, Cycle),
     Stop(u32),

@@ -10,7 +10,7 @@ use driver::{Driver, Phase};
 use parts::names::{BAD_STATE, DIFFERS, GAVE_UP, PROGRAM, SECTOR};
 
 // How far a job is: no cycle named yet; within; or ended with its number.
-#[derive(Drop)]
+#[derive(Clone, Copy)]
 pub enum Progress {
     Waiting,
     Within(Loader),
@@ -18,7 +18,7 @@ pub enum Progress {
 }
 
 // A job under way: what was asked, how many image values, and how far it is.
-#[derive(Drop)]
+#[derive(Clone, Copy)]
 pub struct Loading {
     pub part: u32,
     pub first: u32,
@@ -29,21 +29,21 @@ pub struct Loading {
 }
 
 // A begin's answer: 0 or the refusal, and the job.
-#[derive(Drop)]
+#[derive(Clone, Copy)]
 pub struct Begun {
     pub answer: u32,
     pub loading: Loading,
 }
 
 // What a turn names: nothing, or the next cycle, at the job's WP# level, and why it is sent.
-#[derive(Drop)]
+#[derive(Clone, Copy)]
 pub enum Sending {
     SendsNothing,
     Sends(Purpose, Cycle),
 }
 
 // A turn's answer: 0 with a cycle; 0, 11 or 12 at the end; or a refusal. Then the job handed back, and the cycle.
-#[derive(Drop)]
+#[derive(Clone, Copy)]
 pub struct LoadTurn {
     pub answer: u32,
     pub loading: Loading,

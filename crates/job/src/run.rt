@@ -11,7 +11,7 @@ use parts::names::{A_READ, A_WRITE, NO_CYCLE, PROGRAM};
 pub(crate) const MOST_CYCLES: u64 = 2147483648;
 
 // What the cycles sent so far have counted, and their µs.
-#[derive(Drop)]
+#[derive(Clone, Copy)]
 pub struct Tally {
     pub erases: u64,
     pub programs: u64,
@@ -23,7 +23,7 @@ pub struct Tally {
 
 // The last cycle: kind 0 none, 1 read, 2 write.
 #[repr(C)]
-#[derive(Drop)]
+#[derive(Clone, Copy)]
 pub struct Last {
     pub kind: u32,
     pub elapsed: u32,
@@ -33,7 +33,7 @@ pub struct Last {
 }
 
 // What is held beside the cells: the device, the counts, the last cycle and its reply, and how many were sent.
-#[derive(Drop)]
+#[derive(Clone, Copy)]
 pub struct Held {
     pub device: Device,
     pub tally: Tally,
@@ -43,7 +43,7 @@ pub struct Held {
 }
 
 // What is held when a run ends, and the number with which the loader stopped: 0 while it goes on.
-#[derive(Drop)]
+#[derive(Clone, Copy)]
 pub(crate) struct RunEnd {
     pub(crate) held: Held,
     pub(crate) answer: u32,

@@ -1,4 +1,6 @@
 // The job file of document 01: what its trailer asks, and the image it points back to.
+#![tactic(auto)]
+
 mod bytes;
 mod image;
 mod trailer;

@@ -8,7 +8,7 @@ use parts::names::BAD_FILE;
 // What a job file asks: 0 or 13, and beside 0 the part, the WP# level, the first address, p,
 // and the image by its first byte in the file and its number of values.
 #[repr(C)]
-#[derive(Drop)]
+#[derive(Clone, Copy)]
 pub struct JobFile {
     pub answer: u32,
     pub part: u32,

@@ -6,7 +6,7 @@ use mathlib.Core.List.{List}
 use native.Mathlib.Omega.{arith}
 use lib.Dec.{eqb, ltb}
 use borrow.Author.Tests.{lt-ltb, le-ltb}
-use Rattle.parts.specs.Pick.{◌when◌, ◌else◌}
+use Rattle.parts.specs.Pick.{pick, ◌when◌, ◌else◌}
 use Rattle.parts.specs.Width.{value_of}
 use Rattle.parts.specs.Table.{row_of}
 use Rattle.parts.specs.declared.table.Row.{Row}
@@ -15,7 +15,7 @@ use Rattle.driver.specs.declared.machine.Phase.{Phase}
 use Rattle.driver.specs.declared.machine.Phase.TheVariants.{Writing, Polling, Confirming, Done, GaveUp, Differs}
 use Rattle.driver.specs.declared.machine.Driver.{Driver}
 use Rattle.driver.specs.declared.machine.Step.{Step}
-use Rattle.driver.specs.Machine.{driver, in_range, value_wanted, ended, matches, most_polls, polls, writing_of, polling_of, confirming_of, phase_of, step_of}
+use Rattle.driver.specs.Machine.{driver, in_range, value_wanted, ended, matches, most_polls, polls, confirms, writing_of, polling_of, confirming_of, phase_of, step_of}
 use Rattle.bus.proofs.Back.{level-back}
 use Rattle.job.specs.declared.loader.Stage.{Stage}
 use Rattle.job.specs.declared.loader.Stage.TheVariants.{Scanning, Looking, Driving}
@@ -94,7 +94,7 @@ phases-name : (r : Row) (f : Phase) (d : Driver) (read : ℕ) → NextBack (phas
 unfolding next_of writing_of polling_of confirming_of
 phases-name r Writing d read = refl
 phases-name r Polling d read =
-    split NextBack (matches d read) _ _ (λ _. refl)
+    split NextBack (matches d read) (confirms d) (pick (ltb d.count (most_polls r d.command d.p)) (polls d) (ended d GaveUp)) (λ _. refl)
     (λ _. split NextBack (ltb d.count (most_polls r d.command d.p)) (polls d) (ended d GaveUp) (λ _. refl) (λ _. refl))
 phases-name r Confirming d read =
     split NextBack (eqb (value_of r.width read) (value_wanted r d.command d.«data»)) (ended d Done) (ended d Differs) (λ _. refl) (λ _. refl)

@@ -1,4 +1,6 @@
 // The states of a driver and of a job as plain numbers, and the calls on them: each takes any numbers.
+#![tactic(auto)]
+
 mod loading;
 mod machine;
 

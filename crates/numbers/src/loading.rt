@@ -27,7 +27,7 @@ const OVER: u32 = 6;
 
 // A job under way as numbers: what was asked, how far it is, the sector and the cell, the driver, and the number of its end.
 #[repr(C)]
-#[derive(Drop)]
+#[derive(Clone, Copy)]
 pub struct LoadingNumbers {
     pub part: u32,
     pub first: u32,
@@ -43,7 +43,7 @@ pub struct LoadingNumbers {
 
 // A begin: 0 or the refusal, and the job.
 #[repr(C)]
-#[derive(Drop)]
+#[derive(Clone, Copy)]
 pub struct BeginNumbers {
     pub answer: u32,
     pub loading: LoadingNumbers,
@@ -51,7 +51,7 @@ pub struct BeginNumbers {
 
 // A turn: its answer, the job handed back, the cycle, and WP#'s level at it.
 #[repr(C)]
-#[derive(Drop)]
+#[derive(Clone, Copy)]
 pub struct TurnNumbers {
     pub answer: u32,
     pub loading: LoadingNumbers,

@@ -21,7 +21,7 @@ pub(crate) const ENDED_DIFFERS: u32 = 5;
 
 // A driver as numbers.
 #[repr(C)]
-#[derive(Drop)]
+#[derive(Clone, Copy)]
 pub struct DriverNumbers {
     pub part: u32,
     pub command: u32,
@@ -34,7 +34,7 @@ pub struct DriverNumbers {
 
 // A start: 0 or the refusal, and the driver.
 #[repr(C)]
-#[derive(Drop)]
+#[derive(Clone, Copy)]
 pub struct StartNumbers {
     pub answer: u32,
     pub driver: DriverNumbers,
@@ -42,7 +42,7 @@ pub struct StartNumbers {
 
 // A cycle to send: its kind (0 none, 1 read, 2 write), the µs since the last one, address and data.
 #[repr(C)]
-#[derive(Drop)]
+#[derive(Clone, Copy)]
 pub struct CycleNumbers {
     pub kind: u32,
     pub elapsed: u32,
@@ -52,7 +52,7 @@ pub struct CycleNumbers {
 
 // A step: its answer, the driver handed back, the cycle, and the polls named so far.
 #[repr(C)]
-#[derive(Drop)]
+#[derive(Clone, Copy)]
 pub struct StepNumbers {
     pub answer: u32,
     pub driver: DriverNumbers,

@@ -1,4 +1,6 @@
 // The parts of document 01: what the part table holds of a part, the numbers of commands and refusals by name, a cell's value and blank by the width, the ranges of an address, and times.
+#![tactic(auto)]
+
 pub mod names;
 mod span;
 mod table;

@@ -6,7 +6,7 @@ ghost use Rattle.parts.specs.Width.{sector_size};
 use crate::{End, Row};
 
 // A range of cells: its first address and how many.
-#[derive(Drop)]
+#[derive(Clone, Copy)]
 pub struct Span {
     pub first: u32,
     pub count: u32,

@@ -1,7 +1,7 @@
 // What the part table holds of a part: a line of numbers, and each by its name. The table itself is crate table.
 
 // The end that WP# low protects: neither, the lowest block or the highest.
-#[derive(Drop)]
+#[derive(Clone, Copy)]
 pub enum End {
     Neither,
     Lowest,
@@ -12,7 +12,7 @@ pub enum End {
 // Sector/block and Chip (times in µs), and the facts beside them: U1, U2 and how many addresses
 // their compared low bits tell apart, the sector's and the block's code, the protected end, and
 // whether an erase can be suspended.
-#[derive(Drop)]
+#[derive(Clone, Copy)]
 pub struct Line {
     pub columns: [u32; 7],
     pub beside: [u32; 5],
@@ -21,7 +21,7 @@ pub struct Line {
 }
 
 // A part, each number by its name.
-#[derive(Drop)]
+#[derive(Clone, Copy)]
 pub struct Row {
     pub width: u32,
     pub cells: u32,
@@ -40,7 +40,7 @@ pub struct Row {
 }
 
 // What the table answers: 0 or the refusal, and the row.
-#[derive(Drop)]
+#[derive(Clone, Copy)]
 pub struct Found {
     pub answer: u32,
     pub row: Row,

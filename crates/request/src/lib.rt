@@ -1,4 +1,6 @@
 // The refusals of a job: on lent cells, at the begin of one with none lent, and of one under way.
+#![tactic(auto)]
+
 mod refusal;
 
 pub use refusal::{begin_refusal, job_refusal, standing_refusal};

@@ -1,6 +1,8 @@
 // The program `speed`: loads a random image over random cells of part 8 with a poll every 10 µs, and prints the bill's
 // counts. Standard input says how many words of the image; where it is empty, the whole part is loaded. How long it takes
 // is measured from outside.
+#![tactic(auto)]
+
 ghost use Rattle.std.specs.Prelude.{◌≡◌, ◌≤◌, length};
 
 // The next of a row of random numbers below 2,147,483,648.

@@ -1,4 +1,6 @@
 // What the station's C controller links: every entry point takes and hands back plain numbers, and takes any.
+#![tactic(auto)]
+
 mod cycle;
 mod figures;
 mod file;

@@ -6,7 +6,7 @@ use crate::part_row;
 use parts::names::NO_ENTRY;
 
 // A figure: 0 or the refusal, and the number.
-#[derive(Drop)]
+#[derive(Clone, Copy)]
 pub struct Figure {
     pub answer: u32,
     pub value: u32,

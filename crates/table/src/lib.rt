@@ -1,4 +1,6 @@
 // The part table of document 01, and its figures.
+#![tactic(auto)]
+
 mod figure;
 mod rows;
 

@@ -3,14 +3,14 @@ ghost use Rattle.std.specs.Prelude.{◌≡◌, min};
 ghost use Rattle.values.specs.Search.{decides, decision_of, leading_of, rise_from};
 
 // Where a bit must rise: the first cell that has one, and its lowest; or nowhere.
-#[derive(Drop)]
+#[derive(Clone, Copy)]
 pub enum Rise {
     At(usize, u32),
     Nowhere,
 }
 
 // What a sector asks for: clearing bits suffices, or its erase.
-#[derive(Drop)]
+#[derive(Clone, Copy)]
 pub enum Decision {
     NoErase,
     SectorErase,
