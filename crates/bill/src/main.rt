@@ -2,43 +2,60 @@
 // part; of a refusal only its answer line.
 #![tactic(auto)]
 
+ghost use Rattle.std.specs.Prelude.{◌≤◌, length};
+
 use job::Bill;
+use std::io;
+use std::io::Read;
 
 // One line: what it is, and the number.
-fn line(label: &[u8], n: u64) {
-    io::write_all(1, label);
-    io::print_decimal(1, n);
-    io::write_all(1, b"\n");
+fn line(rt: &impl Print, label: &str, n: u64) -> io::Result<()> {
+    println!(rt; "{label}{n}")
 }
 
 // The bill in whole, µs, µs, then counts, last the answer; of a refusal the answer alone.
-fn print(b: Bill) {
+fn print(rt: &impl Print, b: Bill) -> io::Result<()> {
     if b.answer == 0 {
-        line(b"saved ", b.saved);
-        line(b"spent ", b.spent);
-        line(b"erases ", b.erases);
-        line(b"programs ", b.programs);
-        line(b"polls ", b.polls);
-        line(b"scans ", b.scans);
-        line(b"confirms ", b.confirms);
-        line(b"sum ", b.sum as u64);
+        line(rt, "saved ", b.saved)?;
+        line(rt, "spent ", b.spent)?;
+        line(rt, "erases ", b.erases)?;
+        line(rt, "programs ", b.programs)?;
+        line(rt, "polls ", b.polls)?;
+        line(rt, "scans ", b.scans)?;
+        line(rt, "confirms ", b.confirms)?;
+        line(rt, "sum ", b.sum as u64)?;
     }
-    line(b"answer ", b.answer as u64);
+    line(rt, "answer ", b.answer as u64)
+}
+
+// Fills a buffer until it is full, the input ends or a read fails, and says how many bytes it has.
+fn read_full<R: Read>(input: &mut R, buf: &mut [u8]) -> usize
+    ensures { result ≤ length buf.new }
+{
+    let mut done = 0;
+    while done < buf.len() {
+        let n = input.read(&mut buf[done..]).unwrap_or(0);
+        if n == 0 {
+            break;
+        }
+        done += n;
+    }
+    done
 }
 
 // Whether the input has ended; a read that fails says no.
-fn has_ended() -> bool {
+fn has_ended<R: Read>(input: &mut R) -> bool {
     let mut byte = [0u8; 1];
-    libc::read(0, &mut byte) == 0
+    input.read(&mut byte).unwrap_or(1) == 0
 }
 
 // A file whose end was not met, be it longer or a read that failed, counts as too long.
-fn main() {
+fn main(rt: HostRuntime) -> io::Result<()> {
     let mut file = [0u8; 20481];
-    let n = io::read_full(0, &mut file);
-    if has_ended() {
-        print(billing::bill_file(&file[..n]));
-        return;
+    let mut input = rt.reader();
+    let n = read_full(&mut input, &mut file);
+    if has_ended(&mut input) {
+        return print(&rt, billing::bill_file(&file[..n]));
     }
-    print(billing::bill_file(&file));
+    print(&rt, billing::bill_file(&file))
 }

@@ -5,6 +5,7 @@
 ghost use Rattle.std.specs.Prelude.{◌≡◌, length};
 
 use device::{Action, Cycle, Device};
+use std::io;
 
 // The next of a row of random numbers below 2,147,483,648.
 fn next(x: u64) -> u64 {
@@ -12,10 +13,8 @@ fn next(x: u64) -> u64 {
 }
 
 // One line: what it is, and the number.
-fn line(label: &[u8], n: u64) {
-    io::write_all(1, label);
-    io::print_decimal(1, n);
-    io::write_all(1, b"\n");
+fn line(rt: &impl Print, label: &str, n: u64) -> io::Result<()> {
+    println!(rt; "{label}{n}")
 }
 
 // The device, how many cycles were sent, and the sum of all that they answered and showed.
@@ -106,9 +105,9 @@ fn part_8() -> [u16; 1048576]
     [0xffff; 1048576]
 }
 
-fn main() {
+fn main(rt: HostRuntime) -> io::Result<()> {
     let mut cells = part_8();
     let played = play(&mut cells);
-    line(b"cycles ", played.sent);
-    line(b"sum ", played.sum);
+    line(&rt, "cycles ", played.sent)?;
+    line(&rt, "sum ", played.sum)
 }

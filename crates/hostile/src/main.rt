@@ -5,6 +5,7 @@
 
 use driver::{Driver, Next};
 use parts::names::BIT_7;
+use std::io;
 
 // A command as it is started, and the value that its confirming read must equal.
 #[derive(Clone, Copy)]
@@ -52,27 +53,35 @@ fn is_nothing(next: Next) -> bool {
 }
 
 // Prints a number after a blank.
-fn show(n: u32) {
-    io::write_all(1, b" ");
-    io::print_decimal(1, n as u64);
+fn show(rt: &impl Print, n: u32) -> io::Result<()> {
+    print!(rt; " {n}")
 }
 
 // Prints the line of a run.
-fn print_run(t: Task, replies: u32, cycles: u32, answer: u32, polls: u32, end: Driver) {
+fn print_run(
+    rt: &impl Print,
+    t: Task,
+    replies: u32,
+    cycles: u32,
+    answer: u32,
+    polls: u32,
+    end: Driver,
+) -> io::Result<()> {
     let again = end.step(0x1234);
-    io::print_decimal(1, t.part as u64);
-    show(t.command);
-    show(replies);
-    show(answer);
-    show(cycles);
-    show(polls);
-    show(again.answer);
-    show(again.polls);
-    io::write_all(1, b"\n");
+    let part = t.part;
+    print!(rt; "{part}")?;
+    show(rt, t.command)?;
+    show(rt, replies)?;
+    show(rt, answer)?;
+    show(rt, cycles)?;
+    show(rt, polls)?;
+    show(rt, again.answer)?;
+    show(rt, again.polls)?;
+    println!(rt; "")
 }
 
 // Runs a command against replies until the driver names nothing: the longest run has 280,007 cycles.
-fn run(t: Task, replies: u32) {
+fn run(rt: &impl Print, t: Task, replies: u32) -> io::Result<()> {
     let started = driver::start(t.part, t.command, t.address, t.data, t.p);
     let mut d = started.driver;
     let mut read: u16 = 0;
@@ -82,23 +91,22 @@ fn run(t: Task, replies: u32) {
         let next = s.next;
         d = s.driver;
         if is_nothing(next) {
-            print_run(t, replies, n, s.answer, s.polls, d);
-            return;
+            return print_run(rt, t, replies, n, s.answer, s.polls, d);
         }
         read = reply(replies, t.wanted, n);
         n += 1;
     }
-    io::write_all(1, b"no end\n");
+    println!(rt; "no end")
 }
 
 // Runs a command against each kind of replies.
-fn run_all(t: Task) {
-    run(t, 0);
-    run(t, 1);
-    run(t, 2);
-    run(t, 3);
-    run(t, 4);
-    run(t, 5);
+fn run_all(rt: &impl Print, t: Task) -> io::Result<()> {
+    run(rt, t, 0)?;
+    run(rt, t, 1)?;
+    run(rt, t, 2)?;
+    run(rt, t, 3)?;
+    run(rt, t, 4)?;
+    run(rt, t, 5)
 }
 
 fn task_of(part: u32, command: u32, address: u32, data: u16, p: u32, wanted: u16) -> Task {
@@ -112,14 +120,14 @@ fn task_of(part: u32, command: u32, address: u32, data: u16, p: u32, wanted: u16
     }
 }
 
-fn main() {
-    run_all(task_of(0, 0, 5, 0x1234, 10, 0x1234));
-    run_all(task_of(3, 0, 524287, 0x80, 1, 0x80));
-    run_all(task_of(5, 0, 0, 0xffff, 7, 0xffff));
-    run_all(task_of(9, 1, 2053, 0, 1000, 0xffff));
-    run_all(task_of(7, 2, 40000, 0, 100, 0xffff));
-    run_all(task_of(1, 3, 0xffffffff, 0xffff, 13, 0xff));
-    run_all(task_of(8, 3, 0, 0, 1, 0xffff));
-    run(task_of(11, 0, 0, 0, 1, 0), 5);
-    run(task_of(3, 2, 0, 0, 1, 0), 5);
+fn main(rt: HostRuntime) -> io::Result<()> {
+    run_all(&rt, task_of(0, 0, 5, 0x1234, 10, 0x1234))?;
+    run_all(&rt, task_of(3, 0, 524287, 0x80, 1, 0x80))?;
+    run_all(&rt, task_of(5, 0, 0, 0xffff, 7, 0xffff))?;
+    run_all(&rt, task_of(9, 1, 2053, 0, 1000, 0xffff))?;
+    run_all(&rt, task_of(7, 2, 40000, 0, 100, 0xffff))?;
+    run_all(&rt, task_of(1, 3, 0xffffffff, 0xffff, 13, 0xff))?;
+    run_all(&rt, task_of(8, 3, 0, 0, 1, 0xffff))?;
+    run(&rt, task_of(11, 0, 0, 0, 1, 0), 5)?;
+    run(&rt, task_of(3, 2, 0, 0, 1, 0), 5)
 }

@@ -5,6 +5,9 @@
 
 ghost use Rattle.std.specs.Prelude.{◌≡◌, ◌≤◌, length};
 
+use std::io;
+use std::io::Read;
+
 // The next of a row of random numbers below 2,147,483,648.
 fn next(x: u64) -> u64 {
     (x % 2147483648 * 1103515245 + 12345) % 2147483648
@@ -22,22 +25,35 @@ fn scatter(words: &mut [u16], seed: u64) {
 }
 
 // One line: what it is, and the number.
-fn line(label: &[u8], n: u64) {
-    io::write_all(1, label);
-    io::print_decimal(1, n);
-    io::write_all(1, b"\n");
+fn line(rt: &impl Print, label: &str, n: u64) -> io::Result<()> {
+    println!(rt; "{label}{n}")
 }
 
 // Loads the image and prints what was counted.
-fn load(cells: &mut [u16], image: &[u16]) {
+fn load(rt: &impl Print, cells: &mut [u16], image: &[u16]) -> io::Result<()> {
     let b = job::load(8, &mut *cells, 0, image, true, 10);
-    line(b"answer ", b.answer as u64);
-    line(b"erases ", b.erases);
-    line(b"programs ", b.programs);
-    line(b"polls ", b.polls);
-    line(b"scans ", b.scans);
-    line(b"confirms ", b.confirms);
-    line(b"sum ", b.sum as u64);
+    line(rt, "answer ", b.answer as u64)?;
+    line(rt, "erases ", b.erases)?;
+    line(rt, "programs ", b.programs)?;
+    line(rt, "polls ", b.polls)?;
+    line(rt, "scans ", b.scans)?;
+    line(rt, "confirms ", b.confirms)?;
+    line(rt, "sum ", b.sum as u64)
+}
+
+// Fills a buffer until it is full, the input ends or a read fails, and says how many bytes it has.
+fn read_full<R: Read>(input: &mut R, buf: &mut [u8]) -> usize
+    ensures { result ≤ length buf.new }
+{
+    let mut done = 0;
+    while done < buf.len() {
+        let n = input.read(&mut buf[done..]).unwrap_or(0);
+        if n == 0 {
+            break;
+        }
+        done += n;
+    }
+    done
 }
 
 // The number that the digits of a text make, at most 1,048,576; that for an empty text.
@@ -72,20 +88,20 @@ fn part_8() -> [u16; 1048576]
 }
 
 // Loads so many words of the image.
-fn run(cells: &mut [u16], image: &[u16], count: usize) {
+fn run(rt: &impl Print, cells: &mut [u16], image: &[u16], count: usize) -> io::Result<()> {
     if image.len() < count {
-        return;
+        return Ok(());
     }
-    load(&mut *cells, &image[..count]);
+    load(rt, &mut *cells, &image[..count])
 }
 
-fn main() {
+fn main(rt: HostRuntime) -> io::Result<()> {
     let mut text = [0u8; 16];
-    let told = io::read_full(0, &mut text);
+    let told = read_full(&mut rt.reader(), &mut text);
     let count = number(&text[..told]);
     let mut cells = part_8();
     let mut image = part_8();
     scatter(&mut cells, 1);
     scatter(&mut image, 2);
-    run(&mut cells, &image, count);
+    run(&rt, &mut cells, &image, count)
 }
