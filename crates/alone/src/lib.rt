@@ -9,8 +9,7 @@ ghost use Rattle.job.specs.Bill.{load_of};
 use job::Bill;
 
 // What station_load does.
-#[unsafe(no_mangle)]
-pub extern "C" fn station_load_alone(
+pub fn station_load_alone(
     part: u32,
     cells: &mut [u16],
     first: u32,

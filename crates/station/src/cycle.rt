@@ -21,8 +21,7 @@ fn no_operation() -> OperationNumbers
 }
 
 // A fresh device: read mode, no sequence begun, nothing running, nothing suspended, no completion 0 µs old.
-#[unsafe(no_mangle)]
-pub extern "C" fn station_fresh() -> DeviceNumbers
+pub fn station_fresh() -> DeviceNumbers
     ensures { result ≡ device_numbers fresh_device }
 {
     DeviceNumbers {
@@ -36,8 +35,7 @@ pub extern "C" fn station_fresh() -> DeviceNumbers
 }
 
 // A read: refusals 1, 2, 5, 3.
-#[unsafe(no_mangle)]
-pub extern "C" fn station_read(
+pub fn station_read(
     part: u32,
     cells: &mut [u16],
     device: DeviceNumbers,
@@ -51,8 +49,7 @@ pub extern "C" fn station_read(
 }
 
 // A write: refusals 1, 2, 5, 3, 4.
-#[unsafe(no_mangle)]
-pub extern "C" fn station_write(
+pub fn station_write(
     part: u32,
     cells: &mut [u16],
     device: DeviceNumbers,
@@ -68,8 +65,7 @@ pub extern "C" fn station_write(
 }
 
 // An idle cycle: refusals 1, 2, 5.
-#[unsafe(no_mangle)]
-pub extern "C" fn station_idle(
+pub fn station_idle(
     part: u32,
     cells: &mut [u16],
     device: DeviceNumbers,
@@ -82,8 +78,7 @@ pub extern "C" fn station_idle(
 }
 
 // A power cut with a scar: refusals 1, 2, 5.
-#[unsafe(no_mangle)]
-pub extern "C" fn station_cut(
+pub fn station_cut(
     part: u32,
     cells: &mut [u16],
     device: DeviceNumbers,

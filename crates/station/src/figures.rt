@@ -4,8 +4,7 @@ ghost use Rattle.table.specs.Figures.{figure_of};
 ghost use Rattle.driver.specs.Writes.{kth_write};
 
 // The figure of a part in a column, 0 Width to 6 Chip; 0 where it is refused.
-#[unsafe(no_mangle)]
-pub extern "C" fn station_figure(part: u32, column: u32) -> u32
+pub fn station_figure(part: u32, column: u32) -> u32
     ensures { result ≡ (figure_of part column).value }
 {
     let figure = table::part_figure(part, column);
@@ -13,8 +12,7 @@ pub extern "C" fn station_figure(part: u32, column: u32) -> u32
 }
 
 // The answer to the same question: 0, or the refusal 1 or 15.
-#[unsafe(no_mangle)]
-pub extern "C" fn station_figure_answer(part: u32, column: u32) -> u32
+pub fn station_figure_answer(part: u32, column: u32) -> u32
     ensures { result ≡ (figure_of part column).answer }
 {
     let asked = table::part_figure(part, column);
@@ -22,14 +20,7 @@ pub extern "C" fn station_figure_answer(part: u32, column: u32) -> u32
 }
 
 // The address of the k-th write of a command, from 0; 0 where it is refused.
-#[unsafe(no_mangle)]
-pub extern "C" fn station_write_address(
-    part: u32,
-    command: u32,
-    address: u32,
-    data: u16,
-    k: u32,
-) -> u32
+pub fn station_write_address(part: u32, command: u32, address: u32, data: u16, k: u32) -> u32
     ensures { result ≡ (kth_write part command address «data» k).address }
 {
     let place = driver::kth_write(part, command, address, data, k);
@@ -37,14 +28,7 @@ pub extern "C" fn station_write_address(
 }
 
 // The data of the same write; 0 where it is refused.
-#[unsafe(no_mangle)]
-pub extern "C" fn station_write_data(
-    part: u32,
-    command: u32,
-    address: u32,
-    data: u16,
-    k: u32,
-) -> u16
+pub fn station_write_data(part: u32, command: u32, address: u32, data: u16, k: u32) -> u16
     ensures { result ≡ (kth_write part command address «data» k).«data» }
 {
     let word = driver::kth_write(part, command, address, data, k);
@@ -52,14 +36,7 @@ pub extern "C" fn station_write_data(
 }
 
 // The answer to the same question: 0, or the refusal 1, 14, 3, 4 or 15.
-#[unsafe(no_mangle)]
-pub extern "C" fn station_write_answer(
-    part: u32,
-    command: u32,
-    address: u32,
-    data: u16,
-    k: u32,
-) -> u32
+pub fn station_write_answer(part: u32, command: u32, address: u32, data: u16, k: u32) -> u32
     ensures { result ≡ (kth_write part command address «data» k).answer }
 {
     let standing = driver::kth_write(part, command, address, data, k);

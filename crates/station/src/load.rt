@@ -6,8 +6,7 @@ ghost use Rattle.job.specs.Bill.{load_of, report_of};
 use job::{Bill, Report};
 
 // The job: loads the image from first on, and hands back the bill. Refusals 1, 2, 10, 6, 7, 8, 9.
-#[unsafe(no_mangle)]
-pub extern "C" fn station_load(
+pub fn station_load(
     part: u32,
     cells: &mut [u16],
     first: u32,
@@ -21,8 +20,7 @@ pub extern "C" fn station_load(
 }
 
 // The second call: sends only the first k cycles of the job, all if fewer.
-#[unsafe(no_mangle)]
-pub extern "C" fn station_load_first(
+pub fn station_load_first(
     part: u32,
     cells: &mut [u16],
     first: u32,

@@ -7,22 +7,14 @@ ghost use Rattle.numbers.specs.Loading.{begin_numbers, turned_of};
 use numbers::{BeginNumbers, LoadingNumbers, TurnNumbers};
 
 // Begins a job to which no cells are lent: refusals 1, 10, 6, 7, 8, 9.
-#[unsafe(no_mangle)]
-pub extern "C" fn station_begin(
-    part: u32,
-    first: u32,
-    image: &[u16],
-    wp: u32,
-    p: u32,
-) -> BeginNumbers
+pub fn station_begin(part: u32, first: u32, image: &[u16], wp: u32, p: u32) -> BeginNumbers
     ensures { result ≡ begin_numbers (begin_load part first image.now (high wp) p) }
 {
     numbers::begin_numbers(job::begin_load(part, first, image, 0 < wp, p))
 }
 
 // Given the value last read, names the next cycle or the end: 5 for numbers that are no state in range.
-#[unsafe(no_mangle)]
-pub extern "C" fn station_turn(
+pub fn station_turn(
     loading: LoadingNumbers,
     image: &[u16],
     seen: &mut [u16; 4096],
