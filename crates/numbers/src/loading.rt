@@ -283,6 +283,7 @@ fn turn_numbers(given: LoadingNumbers, t: LoadTurn) -> TurnNumbers
 }
 
 // Given the value last read, names the next cycle or the end: 5 for numbers that are no state in range.
+#[tactic(auto, unfolding(crate::specs::Loading::turned_of))]
 pub fn turned(
     loading: LoadingNumbers,
     image: &[u16],

@@ -193,6 +193,7 @@ fn step_numbers(t: Step) -> StepNumbers
 }
 
 // Given the value last read, names the next cycle or the end: 5 for numbers that are no state in range.
+#[tactic(auto, unfolding(crate::specs::Machine::stepped_of))]
 pub fn stepped(state: DriverNumbers, read: u16) -> StepNumbers
     ensures { result ≡ stepped_of state read }
 {

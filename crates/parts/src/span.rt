@@ -80,6 +80,7 @@ impl Row {
     }
 
     // What WP# low protects: nothing, the lowest block or the highest.
+    #[tactic(auto, unfolding(crate::specs::Span::protected_of))]
     pub fn protected_range(self) -> Span
         ensures { result ≡ protected_of self }
     {

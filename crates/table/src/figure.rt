@@ -20,6 +20,7 @@ fn refused(answer: u32) -> Figure
 }
 
 // The figure of a part in a column, 0 Width to 6 Chip: 1 for a part above 10, 15 for a column above 6.
+#[tactic(auto, unfolding(crate::specs::Figures::figure_of))]
 pub fn part_figure(part: u32, column: u32) -> Figure
     ensures { result ≡ figure_of part column }
 {
