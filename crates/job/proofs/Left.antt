@@ -25,8 +25,8 @@ same_at b [] k h = absurd (not-suc-le-zero h)
 same_at b (x ∷ l) zero h = refl
 same_at b (x ∷ l) (suc k) h = same_at b l k (le_of_suc-le-suc h)
 
-abbrev get_d_of : List ℕ → ℕ → ℕ
-get_d_of l k = get_or l k 0
+abbrev get_or_of : List ℕ → ℕ → ℕ
+get_or_of l k = get_or l k 0
 
 -- a sector erase at a sector's first address
 module _ (r : Row) (a : ℕ) (aligned : a % sector_size r.width ≡ 0) where
@@ -67,6 +67,6 @@ module _ (r : Row) (a : ℕ) (aligned : a % sector_size r.width ≡ 0) where
     erase-at k h =
         let e : a + k ≡ length (take a cells) + k = ap (λ (n : ℕ). n + k) (sym front) in
         ap (λ (l : List ℕ). get_or l (a + k) 0) (erase-leaves cells)
-        ∙ (ap (get_d_of (take a cells ++ (blanks ++ drop S (drop a cells)))) e
+        ∙ (ap (get_or_of (take a cells ++ (blanks ++ drop S (drop a cells)))) e
         ∙ (get_or-append-add (take a cells) (blanks ++ drop S (drop a cells)) k 0
         ∙ (get_or-append blanks (drop S (drop a cells)) 0 k (rw middle h) ∙ same_at (blank_of r.width) (take S (drop a cells)) k (rw kept h))))

@@ -3,6 +3,7 @@ ghost use Rattle.std.specs.Prelude.{◌≡◌};
 ghost use Rattle.parts.specs.Width.{blank_of, fits_in, value_of};
 
 // The value of the word x: its low bits, as many as the width.
+#[tactic(auto, using(crate::proofs::Values::wide))]
 pub fn value(width: u32, x: u16) -> u16
     ensures { result ≡ value_of width x }
 {
