@@ -114,3 +114,6 @@ module _ (part command a x p : ℕ) (s : Started) (f : Found) (e : s ≡ start_o
   pub refuses-writing : (s.answer ≡ 0 → ⊥) → step s.answer s.driver Nothing 0 ≡ start_writing part command a x p
   unfolding start_writing
   refuses-writing n = rw (← e, ne_eqb s.answer 0 n)
+
+-- what the check proves `start_writing` by
+pub ruleset writing = (may_write, writes-first, refuses-writing)

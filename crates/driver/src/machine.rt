@@ -154,6 +154,7 @@ pub fn start(part: u32, command: u32, address: u32, data: u16, p: u32) -> Starte
 }
 
 // Starts a command and names its first write at once: the same refusals.
+#[tactic(auto, using(crate::proofs::Begins::writing))]
 pub fn start_writing(part: u32, command: u32, address: u32, data: u16, p: u32) -> Step
     ensures { result ≡ start_writing part command address «data» p }
 {

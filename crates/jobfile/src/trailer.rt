@@ -35,6 +35,7 @@ fn refused_job() -> JobFile
 }
 
 // Whether a trailer is wrong that has so many bytes before it.
+#[tactic(auto, unfolding(crate::specs::JobFile::wrong))]
 fn is_wrong(t: &[u8], before: usize) -> bool
     requires { 16 ≤ length t.now }
     ensures { result ≡ wrong t.now before }

@@ -31,6 +31,7 @@ value-value w x = mod-mod x (2 ^ w)
 pub value-wide : (w x : ℕ) → 16 ≤ w → x < 2 ^ 16 → value_of w x ≡ x
 value-wide w x h l = value_same w x (omega (arith, pow_mono h))
 
+-- what the check proves `value` by
 pub ruleset wide = (value-wide)
 
 pub blank-word : (w : ℕ) → w ≤ 16 → value_of 16 (blank_of w) ≡ blank_of w

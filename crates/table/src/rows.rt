@@ -135,6 +135,7 @@ fn named(line: Line) -> Row
 }
 
 // The row of a part: 1 for a part above 10.
+#[tactic(auto, unfolding(parts::specs::Table::row_of, parts::specs::Table::part_refusal))]
 pub fn part_row(part: u32) -> Found
     ensures { result ≡ found_of part }
 {
