@@ -8,7 +8,7 @@ use Rattle.parts.specs.Pick.{◌when◌, ◌else◌, ◌unless◌, ◌or_else◌
 use Rattle.parts.specs.Table.{no_line, row_from, part_refusal, row_of}
 use Rattle.table.specs.Figures.{figure}
 use Rattle.table.specs.declared.figure.Figure.{Figure}
-use Rattle.parts.specs.declared.table.Found.{Found}
+use Rattle.parts.specs.Table.{Found}
 use Rattle.device.specs.Cycle.{Outcome, reply}
 use Rattle.driver.specs.declared.machine.Started.{Started}
 use Rattle.driver.specs.declared.machine.Driver.{Driver}

@@ -8,7 +8,7 @@ use lib.Dec.{eqb, ltb}
 use lib.ListN.{length}
 use Rattle.parts.specs.Table.{row_of, found_of}
 use Rattle.parts.specs.declared.table.Row.{Row}
-use Rattle.parts.specs.declared.table.Found.{Found}
+use Rattle.parts.specs.Table.{Found}
 use Rattle.parts.proofs.Every.{split}
 use Rattle.device.specs.declared.state.Operation.{Operation}
 use Rattle.device.specs.declared.state.Core.{Core}

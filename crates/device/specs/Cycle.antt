@@ -7,7 +7,7 @@ use Rattle.parts.specs.Width.{value_of, blank_of, fits_in}
 use Rattle.parts.specs.Span.{holdsb}
 use Rattle.parts.specs.Table.{row_of, found_of}
 use Rattle.parts.specs.declared.table.Row.{Row}
-use Rattle.parts.specs.declared.table.Found.{Found}
+use Rattle.parts.specs.Table.{Found}
 use Rattle.commands.specs.declared.effect.Mode.{Mode}
 use Rattle.commands.specs.declared.effect.Mode.TheVariants.{ReadMode, Identification}
 use Rattle.device.specs.declared.state.Operation.{Operation}

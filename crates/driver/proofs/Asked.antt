@@ -10,7 +10,7 @@ use Rattle.parts.specs.Width.{fits_in}
 use Rattle.parts.specs.Table.{row_of, part_refusal, found_of}
 use Rattle.parts.specs.Time.{has_command}
 use Rattle.parts.specs.declared.table.Row.{Row}
-use Rattle.parts.specs.declared.table.Found.{Found}
+use Rattle.parts.specs.Table.{Found}
 use Rattle.parts.proofs.Every.{split}
 use Rattle.parts.proofs.Rounding.{interval, interval-is}
 use Rattle.parts.proofs.Refused.{zero_left, none_first}

@@ -10,7 +10,7 @@ use Rattle.parts.specs.Table.{row_of, found_of}
 use Rattle.parts.proofs.Every.{split}
 use Rattle.parts.specs.Width.{blank_of}
 use Rattle.parts.specs.declared.table.Row.{Row}
-use Rattle.parts.specs.declared.table.Found.{Found}
+use Rattle.parts.specs.Table.{Found}
 use Rattle.device.specs.Sequence.{ignored}
 use Rattle.driver.proofs.Commands.{command-le, four}
 use Rattle.driver.specs.declared.machine.Started.{Started}

@@ -5,7 +5,7 @@ use native.Mathlib.Omega.{arith}
 use borrow.Author.Tests.{ne_eqb, lt-ltb, le-ltb}
 use Rattle.parts.specs.Names.{NO-ENTRY}
 use Rattle.parts.specs.Table.{found_of}
-use Rattle.parts.specs.declared.table.Found.{Found}
+use Rattle.parts.specs.Table.{Found}
 use Rattle.driver.specs.Refusals.{command_on, command_refusal}
 use Rattle.driver.specs.Fits.{CodesAndTimesFit}
 use Rattle.driver.specs.Writes.{no_write, nth_write, write_count, kth, kth_write}

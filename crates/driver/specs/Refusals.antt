@@ -6,7 +6,7 @@ use Rattle.parts.specs.Width.{fits_in}
 use Rattle.parts.specs.Table.{found_of}
 use Rattle.parts.specs.Time.{has_command, is_interval}
 use Rattle.parts.specs.declared.table.Row.{Row}
-use Rattle.parts.specs.declared.table.Found.{Found}
+use Rattle.parts.specs.Table.{Found}
 
 -- 4 for data that does not fit, of a program only
 unfoldable pub data_refusal : Row → ℕ → ℕ → ℕ

@@ -8,7 +8,7 @@ use borrow.Author.Tests.{eq-eqb, ne_eqb, eqb-true}
 use lib.Dec.{eqb}
 use lib.ListN.{length}
 use Rattle.parts.specs.Table.{row_of, found_of}
-use Rattle.parts.specs.declared.table.Found.{Found}
+use Rattle.parts.specs.Table.{Found}
 use Rattle.parts.proofs.Every.{both}
 use Rattle.parts.proofs.Sound.{width-most, cells-most}
 use Rattle.parts.proofs.Ranges.{sector-some}

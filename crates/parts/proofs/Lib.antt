@@ -7,3 +7,4 @@ pub mod Sound
 pub mod Ranges
 pub mod Unique
 pub mod Determined
+pub mod Told

@@ -99,3 +99,5 @@ pub sector-inside : (n : ℕ) → part_refusal n ≡ 0 → (a : ℕ) → has_blo
     → ((block_of (row_of n) a).first ≤ (sector_of (row_of n) a).first) × ((sector_of (row_of n) a).first + (sector_of (row_of n) a).count ≤ (block_of (row_of n) a).first + (block_of (row_of n) a).count)
 unfolding sector_of block_of
 sector-inside n k a h = range_inside (sector_size (row_of n).width) (row_of n).block a (sector-some (row_of n).width) (block-some (row_of n) h) (block-sectors n k)
+
+pub ruleset size = (sector-some)

@@ -4,3 +4,4 @@ pub mod Width
 pub mod Table
 pub mod Span
 pub mod Time
+pub mod Refused

@@ -6,7 +6,6 @@ use Rattle.parts.specs.declared.table.End.{End}
 use Rattle.parts.specs.declared.table.End.TheVariants.{Neither, Lowest, Highest}
 use Rattle.parts.specs.declared.table.Line.{Line}
 use Rattle.parts.specs.declared.table.Row.{Row}
-use Rattle.parts.specs.declared.table.Found.{Found}
 
 -- a part's line: the columns of the table, and beside them U1, U2, two to the compared bits, the codes of sector and block, the end that WP# low protects, and whether an erase can be suspended
 abbrev pub line : ℕ → ℕ → ℕ → ℕ → ℕ → ℕ → ℕ → ℕ → ℕ → ℕ → ℕ → ℕ → End → Bool → Line
@@ -69,6 +68,11 @@ row_of part = row_from (line_of part)
 -- refusal 1: a part above 10
 unfoldable pub part_refusal : ℕ → ℕ
 part_refusal part = NO-PART when ltb 10 part else 0
+
+-- what is known of a part: 0 or the refusal, and the row
+pub record Found : Type 0 where
+  pub answer : ℕ
+  pub row : Row
 
 -- the row by the part's number
 abbrev pub found_of : ℕ → Found

@@ -2,12 +2,14 @@
 #![tactic(auto)]
 
 pub mod names;
+mod refusal;
 mod span;
 mod table;
 mod time;
 mod width;
 
+pub use refusal::Refusal;
 pub use span::Span;
-pub use table::{End, Found, Line, Row};
+pub use table::{End, Line, Row};
 pub use time::{is_interval, rounded_up};
 pub use width::{blank, fits, value};

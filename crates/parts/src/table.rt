@@ -38,10 +38,3 @@ pub struct Row {
     pub protected: End,
     pub suspends: bool,
 }
-
-// What the table answers: 0 or the refusal, and the row.
-#[derive(Clone, Copy)]
-pub struct Found {
-    pub answer: u32,
-    pub row: Row,
-}

@@ -1,18 +1,18 @@
 -- Each exported function's promise determines its result: any two results that it allows are equal. Stated on the promise that is made from the source.
-use mathlib.Core.Path.{sym, ◌∙◌}
 use Rattle.parts.proofs.Unique.{Unique}
-use Rattle.request.proofs.refusal.job_refusal.Kinds as job-refusal-kinds
-use Rattle.request.proofs.refusal.job_refusal.Reads as job-refusal-reads
-use Rattle.request.proofs.refusal.begin_refusal.Kinds as begin-refusal-kinds
-use Rattle.request.proofs.refusal.begin_refusal.Reads as begin-refusal-reads
-use Rattle.request.proofs.refusal.standing_refusal.Kinds as standing-refusal-kinds
-use Rattle.request.proofs.refusal.standing_refusal.Reads as standing-refusal-reads
+use Rattle.parts.proofs.Told.{told-unique}
+use Rattle.request.proofs.refusal.check_job.Kinds as check-job-kinds
+use Rattle.request.proofs.refusal.check_job.Reads as check-job-reads
+use Rattle.request.proofs.refusal.check_begin.Kinds as check-begin-kinds
+use Rattle.request.proofs.refusal.check_begin.Reads as check-begin-reads
+use Rattle.request.proofs.refusal.check_standing.Kinds as check-standing-kinds
+use Rattle.request.proofs.refusal.check_standing.Reads as check-standing-reads
 
-pub job-refusal-unique : Unique job-refusal-kinds.ps job-refusal-kinds.r job-refusal-reads.Post
-job-refusal-unique κs a x y s t p q = p ∙ sym q
+pub check-job-unique : Unique check-job-kinds.ps check-job-kinds.r check-job-reads.Post
+check-job-unique κs a x y s t p q = told-unique x y _ _ p.0 p.1 q.0 q.1
 
-pub begin-refusal-unique : Unique begin-refusal-kinds.ps begin-refusal-kinds.r begin-refusal-reads.Post
-begin-refusal-unique κs a x y s t p q = p ∙ sym q
+pub check-begin-unique : Unique check-begin-kinds.ps check-begin-kinds.r check-begin-reads.Post
+check-begin-unique κs a x y s t p q = told-unique x y _ _ p.0 p.1 q.0 q.1
 
-pub standing-refusal-unique : Unique standing-refusal-kinds.ps standing-refusal-kinds.r standing-refusal-reads.Post
-standing-refusal-unique κs a x y s t p q = p ∙ sym q
+pub check-standing-unique : Unique check-standing-kinds.ps check-standing-kinds.r check-standing-reads.Post
+check-standing-unique κs a x y s t p q = told-unique x y _ _ p.0 p.1 q.0 q.1

@@ -8,7 +8,7 @@ use Rattle.parts.specs.Time.{is_interval}
 use Rattle.parts.specs.Span.{protected_of}
 use Rattle.parts.specs.declared.span.Span.{Span}
 use Rattle.parts.specs.declared.table.Row.{Row}
-use Rattle.parts.specs.declared.table.Found.{Found}
+use Rattle.parts.specs.Table.{Found}
 use Rattle.values.specs.Fit.{fit_all}
 
 -- count cells from first on hold one of a range

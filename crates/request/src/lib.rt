@@ -3,4 +3,4 @@
 
 mod refusal;
 
-pub use refusal::{begin_refusal, job_refusal, standing_refusal};
+pub use refusal::{check_begin, check_job, check_standing};

@@ -4,7 +4,11 @@ use Rattle.parts.specs.Names.{NO-ENTRY}
 use Rattle.parts.specs.Pick.{pick, ◌when◌, ◌else◌, ◌or_else◌}
 use Rattle.parts.specs.Table.{row_of, part_refusal}
 use Rattle.parts.specs.declared.table.Row.{Row}
-use Rattle.table.specs.declared.figure.Figure.{Figure}
+
+-- a figure: 0 or the refusal, and the number
+pub record Figure : Type 0 where
+  pub answer : ℕ
+  pub value : ℕ
 
 abbrev pub figure : ℕ → ℕ → Figure
 figure n v = record { answer = n; value = v }

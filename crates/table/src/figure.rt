@@ -1,38 +1,18 @@
 // The figures of the part table.
-ghost use Rattle.std.specs.Prelude.{◌≡◌};
-ghost use Rattle.table.specs.Figures.{figure, figure_of};
+ghost use Rattle.std.specs.Prelude.{◌≡◌, IfOk};
+ghost use Rattle.parts.specs.Refused.{answer_of};
+ghost use Rattle.table.specs.Figures.{figure_of};
 
 use crate::part_row;
-use parts::names::NO_ENTRY;
-
-// A figure: 0 or the refusal, and the number.
-#[derive(Clone, Copy)]
-pub struct Figure {
-    pub answer: u32,
-    pub value: u32,
-}
-
-// A refused figure.
-fn refused(answer: u32) -> Figure
-    ensures { result ≡ figure answer 0 }
-{
-    Figure { answer, value: 0 }
-}
+use parts::Refusal;
 
 // The figure of a part in a column, 0 Width to 6 Chip: 1 for a part above 10, 15 for a column above 6.
 #[tactic(auto, unfolding(crate::specs::Figures::figure_of))]
-pub fn part_figure(part: u32, column: u32) -> Figure
-    ensures { result ≡ figure_of part column }
+pub fn part_figure(part: u32, column: u32) -> Result<u32, Refusal>
+    ensures answer { answer_of result ≡ (figure_of part column).answer }
+    ensures value { IfOk result (λ n. n ≡ (figure_of part column).value) }
 {
-    let found = part_row(part);
-    let answer = found.answer;
-    if 0 < answer {
-        return refused(answer);
-    }
-    if 6 < column {
-        return refused(NO_ENTRY);
-    }
-    let row = found.row;
+    let row = part_row(part)?;
     let columns = [
         row.width,
         row.cells,
@@ -42,8 +22,5 @@ pub fn part_figure(part: u32, column: u32) -> Figure
         row.erase,
         row.chip,
     ];
-    Figure {
-        answer: 0,
-        value: columns[column as usize],
-    }
+    columns.get(column as usize).copied().ok_or(Refusal::NoEntry)
 }

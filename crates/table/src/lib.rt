@@ -4,5 +4,5 @@
 mod figure;
 mod rows;
 
-pub use figure::{Figure, part_figure};
+pub use figure::part_figure;
 pub use rows::part_row;

@@ -1,14 +1,14 @@
 // The part table of document 01, a line a part.
-ghost use Rattle.std.specs.Prelude.{◌≡◌, ◌≤◌};
-ghost use Rattle.parts.specs.Table.{found_of, line_of, row_from};
+ghost use Rattle.std.specs.Prelude.{◌≡◌, ◌≤◌, IfOk};
+ghost use Rattle.parts.specs.Refused.{answer_of};
+ghost use Rattle.parts.specs.Table.{line_of, part_refusal, row_from, row_of};
 
-use parts::names::NO_PART;
-use parts::{End, Found, Line, Row};
+use parts::{End, Line, Refusal, Row};
 
 // The table, a line a part.
 // columns: Width, Cells, Block, Device ID, Program, Sector/block, Chip
 // beside: U1, U2, compared, sector code, block code
-const LINES: [Line; 11] = [
+static LINES: [Line; 11] = [
     // 0 bench (house)
     Line {
         columns: [16, 8192, 4096, 0xfff0, 14, 18000, 70000],
@@ -88,25 +88,12 @@ const LINES: [Line; 11] = [
     },
 ];
 
-// The line of a part: each by a literal index, so that no compiled look copies the table.
+// The line of a part.
 fn line_of(part: u32) -> Line
     requires { part ≤ 10 }
     ensures { result ≡ line_of part }
 {
-    let lines = LINES;
-    match part {
-        0 => lines[0],
-        1 => lines[1],
-        2 => lines[2],
-        3 => lines[3],
-        4 => lines[4],
-        5 => lines[5],
-        6 => lines[6],
-        7 => lines[7],
-        8 => lines[8],
-        9 => lines[9],
-        _ => lines[10],
-    }
+    LINES[part as usize]
 }
 
 // Each number of a line by its name.
@@ -136,23 +123,12 @@ fn named(line: Line) -> Row
 
 // The row of a part: 1 for a part above 10.
 #[tactic(auto, unfolding(parts::specs::Table::row_of, parts::specs::Table::part_refusal))]
-pub fn part_row(part: u32) -> Found
-    ensures { result ≡ found_of part }
+pub fn part_row(part: u32) -> Result<Row, Refusal>
+    ensures answer { answer_of result ≡ part_refusal part }
+    ensures row { IfOk result (λ r. r ≡ row_of part) }
 {
     if 10 < part {
-        let none = Line {
-            columns: [0; 7],
-            beside: [0; 5],
-            protected: End::Neither,
-            suspends: false,
-        };
-        return Found {
-            answer: NO_PART,
-            row: named(none),
-        };
+        return Err(Refusal::NoPart);
     }
-    Found {
-        answer: 0,
-        row: named(line_of(part)),
-    }
+    Ok(named(line_of(part)))
 }

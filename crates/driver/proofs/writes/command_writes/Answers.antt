@@ -1,7 +1,7 @@
 use mathlib.Core.Path.{◌≡◌, ap, sym, ◌∙◌}
 use native.Mathlib.Omega.{arith}
 use borrow.Author.Tests.{eq-eqb, ne_eqb}
-use Rattle.parts.specs.declared.table.Found.{Found}
+use Rattle.parts.specs.Table.{Found}
 use Rattle.driver.specs.Writes.{command_writes}
 use Rattle.driver.proofs.Asked.{asked, command-found}
 use Rattle.driver.proofs.Ready.{usual}

@@ -1,5 +1,5 @@
 use mathlib.Core.Path.{ap, sym, ◌∙◌}
-use Rattle.parts.specs.declared.table.Found.{Found}
+use Rattle.parts.specs.Table.{Found}
 use Rattle.driver.specs.Machine.{step_of}
 use Rattle.driver.proofs.Ready.{valid-start, writing-count, usual-row, narrow-row}
 use Rattle.driver.proofs.machine.Driver.step.Goals as goal
