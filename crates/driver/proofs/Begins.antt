@@ -17,7 +17,7 @@ use Rattle.driver.specs.declared.machine.Started.{Started}
 use Rattle.driver.specs.declared.machine.Next.TheVariants.{Nothing}
 use Rattle.driver.specs.Refusals.{start_refusal}
 use Rattle.driver.specs.Writes.{last_write, writes_of, write_count}
-use Rattle.driver.specs.Machine.{address_of, data_of, bit_seven, bit_wanted, value_wanted, begun, start_of, in_range, step, writing_of, start_writing}
+use Rattle.driver.specs.Machine.{address_of, data_of, bit_seven, bit_wanted, value_wanted, begun, start_of, in_range, step_of, writing_of}
 use Rattle.driver.specs.Fits.{CodesAndTimesFit}
 use Rattle.driver.proofs.Asked.{beginning}
 use Rattle.driver.proofs.Asked as asks
@@ -84,36 +84,11 @@ module _ (part command a x p : ℕ) (accepted : start_refusal part command a x p
   unfolding in_range
   start-range = rw kept-accepted (lt-ltb 0 (write_count command) (omega (arith, write-count-some command)))
 
--- ---- what a start hands back: where it answers 0, a driver that may name its first write
-answered : (part command a x p : ℕ) → (start_of part command a x p).answer ≡ start_refusal part command a x p
-unfolding start_of
-answered part command a x p =
-    split (λ (s : Started). s.answer ≡ start_refusal part command a x p) (eqb (start_refusal part command a x p) 0) _ _ (λ t. sym (eqb-true _ 0 t)) (λ _. refl)
+-- what the check proves `start_writing` by: a start is stepped once
+pub writes-first : (part command a x p : ℕ) → start_refusal part command a x p ≡ 0 → step_of (begun part command a x p) 0 ≡ writing_of (row_of part) (begun part command a x p)
+writes-first part command a x p accepted = goes (begun part command a x p) 0 (start-range part command a x p accepted)
 
-module _ (part command a x p : ℕ) (s : Started) (f : Found) (e : s ≡ start_of part command a x p) (found : f ≡ found_of part) where
-  module _ (z : s.answer ≡ 0) where
-    accepts : start_refusal part command a x p ≡ 0
-    accepts = sym (answered part command a x p) ∙ (sym (ap (λ (s : Started). s.answer) e) ∙ z)
+pub first-fits : (command : ℕ) → 0 < write_count command
+first-fits command = omega (arith, write-count-some command)
 
-    begins : s ≡ record { answer = 0; driver = begun part command a x p }
-    begins = e ∙ start_is part command a x p accepts
-
-    row : f.row ≡ row_of part
-    row = ap (λ (f : Found). f.row) found
-
-    pub may_write : CodesAndTimesFit f.row × (s.driver.count < write_count s.driver.command)
-    may_write =
-        let b = begun part command a x p in
-        let i = start-range part command a x p accepts in
-        rw begins (usual-row b f.row i row, writing-count b i refl)
-
-    pub writes-first : writing_of f.row s.driver ≡ start_writing part command a x p
-    unfolding start_writing
-    writes-first = rw (row, ← e, begins) (sym (goes (begun part command a x p) 0 (start-range part command a x p accepts)))
-
-  pub refuses-writing : (s.answer ≡ 0 → ⊥) → step s.answer s.driver Nothing 0 ≡ start_writing part command a x p
-  unfolding start_writing
-  refuses-writing n = rw (← e, ne_eqb s.answer 0 n)
-
--- what the check proves `start_writing` by
-pub ruleset writing = (may_write, writes-first, refuses-writing)
+pub ruleset writing = (writes-first, first-fits)

@@ -2,7 +2,6 @@ pub mod Asked
 pub mod Places
 pub mod Nth
 pub mod Ready
-pub mod KthWrites
 pub mod Polls
 pub mod Steps
 pub mod Talks
@@ -15,3 +14,4 @@ pub mod Begins
 pub mod Alike
 pub mod Theorems
 pub mod Determined
+pub mod Told

@@ -47,3 +47,6 @@ module _ (r : Row) (command a x k : ℕ) where
         split (At k (last_write r command a x)) (eqb command 0) _ _
         (λ z. let q : k + 1 ≡ 4 = h ∙ (rw z at count) in let e : k ≡ 3 = omega arith in rw e)
         (λ z. let q : k + 1 ≡ 6 = h ∙ (rw z at count) in let e : k ≡ 5 = omega arith in rw e)
+
+-- what the check proves `nth_write` by
+pub ruleset places = (first-at, second_at, third_at, fourth-at, fifth-at, last-at)

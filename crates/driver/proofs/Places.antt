@@ -5,8 +5,7 @@ use mathlib.Core.List.{List, [], ◌∷◌, ◌++◌}
 use lib.ListN.{get_or, replicate}
 use lib.Seq.{get_or-take}
 use Rattle.commands.specs.declared.write.Write.{Write}
-use Rattle.driver.specs.declared.writes.Writes.{Writes}
-use Rattle.driver.specs.Writes.{no_write, six_places, writes}
+use Rattle.driver.specs.Writes.{no_write, six_places, Writes, writes}
 
 zeros-at : (n k : ℕ) → get_or (replicate n no_write) k no_write ≡ no_write
 zeros-at zero k = refl

@@ -47,3 +47,6 @@ no-fewer n m h = same _ _ (λ t. eq-eqb _ _ (meet (leb-true _ _ t))) (λ t. ne_e
 
     part : m < n → n ≡ m → ⊥
     part l e = omega arith
+
+-- what the check proves the tests of polls by
+pub ruleset left = (product-fits, polls-left, one_less, no-fewer)

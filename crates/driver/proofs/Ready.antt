@@ -11,7 +11,7 @@ use Rattle.parts.specs.Time.{time_of, rounded_up}
 use Rattle.parts.specs.declared.table.Row.{Row}
 use Rattle.parts.proofs.Every.{both, split}
 use Rattle.parts.proofs.Sound.{sector-byte, block-byte, time-most, width-most}
-use Rattle.parts.proofs.Rounding.{least}
+use Rattle.parts.proofs.Rounding.{least, interval}
 use Rattle.driver.specs.declared.machine.Phase.TheVariants.{Writing}
 use Rattle.driver.specs.declared.machine.Driver.{Driver}
 use Rattle.driver.specs.Refusals.{start_refusal}
@@ -72,3 +72,8 @@ module _ (d : Driver) (r : Row) (e : in_range d ≡ true) (row : r ≡ row_of d.
 
   pub narrow-row : r.width ≤ 16
   narrow-row = rw row (width-most d.part (valid-start d e).asked.known)
+
+-- what the check proves the functions of the driver by: of a part that was looked up, and of counts
+pub ruleset known = (usual, width-most, interval)
+
+pub ruleset counts = (write-count-le, most-le, writing-count)

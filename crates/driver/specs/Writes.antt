@@ -1,12 +1,13 @@
 -- The writes of a command: plain values of U1, U2 and the codes.
-use Rattle.std.specs.Prelude.{ℕ, List, [], ◌∷◌, ◌++◌, eqb, ltb, get_or, take, replicate}
+use Rattle.std.specs.Prelude.{ℕ, Result, Ok, Err, List, [], ◌∷◌, ◌++◌, eqb, ltb, get_or, take, replicate}
 use Rattle.parts.specs.Names.{PROGRAM, SECTOR, BLOCK, NO-ENTRY}
 use Rattle.parts.specs.Pick.{pick, ◌when◌, ◌unless◌, ◌else◌, ◌or_else◌}
 use Rattle.parts.specs.Table.{row_of}
+use Rattle.parts.specs.Refused.{number_of}
+use Rattle.parts.specs.declared.refusal.Refusal.{Refusal}
 use Rattle.parts.specs.declared.table.Row.{Row}
 use Rattle.commands.specs.declared.write.Write.{Write}
-use Rattle.driver.specs.declared.writes.Writes.{Writes}
-use Rattle.driver.specs.declared.writes.Kth.{Kth}
+use Rattle.driver.specs.declared.writes.Writes.{Writes as Named}
 use Rattle.driver.specs.Refusals.{command_refusal}
 
 abbrev pub write : ℕ → ℕ → Write
@@ -43,6 +44,12 @@ write_count command = pick (eqb command PROGRAM) 4 6
 abbrev pub six_places : List Write → List Write
 six_places ws = take 6 (ws ++ replicate 6 no_write)
 
+-- one command's writes: 0 or the refusal, how many they are, and the writes
+pub record Writes : Type 0 where
+  pub answer : ℕ
+  pub count : ℕ
+  pub writes : List Write
+
 abbrev pub writes : ℕ → ℕ → List Write → Writes
 writes n count ws = record { answer = n; count = count; writes = six_places ws }
 
@@ -57,6 +64,12 @@ command_writes part command a x =
 abbrev pub nth_write : Row → ℕ → ℕ → ℕ → ℕ → Write
 nth_write r command a x k = get_or (writes_of r command a x) k no_write
 
+-- one write: 0 or the refusal, its address and its data
+pub record Kth : Type 0 where
+  pub answer : ℕ
+  pub address : ℕ
+  pub «data» : ℕ
+
 abbrev pub kth : ℕ → Write → Kth
 kth n w = record { answer = n; address = w.address; «data» = w.«data» }
 
@@ -70,3 +83,12 @@ kth_write part command a x k =
     pick (eqb (kth_refusal part command a x k) 0)
     (kth 0 (nth_write (row_of part) command a x k))
     (kth (kth_refusal part command a x k) no_write)
+
+-- ---- what the calls tell: zeros beside a refusal
+abbrev pub told_writes : Result Named Refusal → Writes
+told_writes (Ok w) = record { answer = 0; count = w.count; writes = w.writes }
+told_writes (Err e) = writes (number_of e) 0 []
+
+abbrev pub told_write : Result Write Refusal → Kth
+told_write (Ok w) = kth 0 w
+told_write (Err e) = kth (number_of e) no_write

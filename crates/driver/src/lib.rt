@@ -6,4 +6,4 @@ mod refusals;
 mod writes;
 
 pub use machine::{CONFIRM_AFTER, Driver, Next, Phase, Started, Step, start, start_writing};
-pub use writes::{Kth, Writes, command_writes, kth_write};
+pub use writes::{Writes, command_writes, kth_write};

@@ -1,21 +1,21 @@
 // The driver: a machine that hands its state back from each step.
-ghost use Rattle.std.specs.Prelude.{◌≡◌, ◌<◌, ◌≤◌, eqb, leb, ltb};
-ghost use Rattle.parts.specs.Table.{found_of};
-ghost use Rattle.driver.specs.Machine.{address_of, after_write, bit_seven, bit_wanted, confirming_of, confirms, count_fits, data_of, driver, in_range, matches, most_polls, moved, polling_of, polls, some_up_to, start_of, start_writing, step, step_of, value_wanted, writing_of};
+ghost use Rattle.std.specs.Prelude.{◌≡◌, ◌<◌, ◌≤◌, IfSome, OnSome, eqb, is_some, leb, ltb};
+ghost use Rattle.parts.specs.Table.{row_of};
+ghost use Rattle.driver.specs.Machine.{address_of, after_write, begun, bit_seven, bit_wanted, confirming_of, confirms, count_fits, data_of, in_range, matches, most_polls, moved, no_driver, polling_of, polls, some_up_to, start_of, start_writing, step, step_of, value_wanted, writing_of};
 ghost use Rattle.driver.specs.Fits.{CodesAndTimesFit};
 ghost use Rattle.driver.specs.Writes.{write_count};
 
-use crate::refusals::start_refusal;
+use crate::refusals::check_start;
 use crate::writes::{nth_write, write_count};
 use device::Action;
-use parts::names::{BAD_STATE, BIT_7, CHIP, DIFFERS, GAVE_UP, PROGRAM};
-use parts::{Found, Row};
+use parts::names::{BIT_7, CHIP, PROGRAM};
+use parts::{Refusal, Row};
 
 // The µs from the last poll to the confirming read: the word is there a microsecond after bit 7.
 pub const CONFIRM_AFTER: u32 = 1;
 
 // The writes are named one by one; then polls; then the confirming read; then one of three ends.
-#[derive(Clone, Copy)]
+#[derive(Clone, Copy, Debug, PartialEq, Eq)]
 pub enum Phase {
     Writing,
     Polling,
@@ -112,69 +112,58 @@ fn value_wanted(row: Row, command: u32, data: u16) -> u16
 
 // A driver that has named nothing yet.
 fn begin(part: u32, command: u32, address: u32, data: u16, p: u32) -> Driver
-    ensures { result ≡ driver part command address «data» p Phase.Writing 0 }
+    ensures { result ≡ begun part command address «data» p }
 {
     Driver {
         part,
         command,
-        address,
-        data,
+        address: address_of(command, address),
+        data: data_of(command, data),
         p,
         phase: Phase::Writing,
         count: 0,
     }
 }
 
-// Starts a command on a part that was looked up.
-fn start_on(found: Found, part: u32, command: u32, address: u32, data: u16, p: u32) -> Started
-    requires { found ≡ found_of part }
-    ensures { result ≡ start_of part command address «data» p }
+// No driver: the all-zero state.
+fn no_driver() -> Driver
+    ensures { result ≡ no_driver }
 {
-    let answer = start_refusal(found, command, address, data, p);
-    if 0 < answer {
-        return Started {
-            answer,
-            driver: begin(0, 0, 0, 0, 0),
-        };
-    }
-    let a = address_of(command, address);
-    let x = data_of(command, data);
-    Started {
-        answer: 0,
-        driver: begin(part, command, a, x, p),
-    }
+    begin(0, 0, 0, 0, 0)
 }
 
-// Starts a command, polled every p µs: refusals 1, 10, 14, 3, 4.
+// Starts a command, polled every p µs: refusals 1, 10, 14, 3, 4. A refused start hands back the all-zero state.
+// kept: what may not change: a refused start's state, which its clause, demands' `start-refuses` and `refused-start-steps` speak of
+#[tactic(auto, unfolding(crate::specs::Machine::start_of))]
 pub fn start(part: u32, command: u32, address: u32, data: u16, p: u32) -> Started
     ensures { result ≡ start_of part command address «data» p }
 {
-    let found = table::part_row(part);
-    start_on(found, part, command, address, data, p)
+    match check_start(part, command, address, data, p) {
+        Ok(_) => Started {
+            answer: 0,
+            driver: begin(part, command, address, data, p),
+        },
+        Err(refusal) => Started {
+            answer: refusal.number(),
+            driver: no_driver(),
+        },
+    }
 }
 
 // Starts a command and names its first write at once: the same refusals.
-#[tactic(auto, using(crate::proofs::Begins::writing))]
+#[tactic(auto, unfolding(crate::specs::Machine::start_writing, crate::specs::Machine::start_of), using(crate::proofs::Begins::writing))]
 pub fn start_writing(part: u32, command: u32, address: u32, data: u16, p: u32) -> Step
     ensures { result ≡ start_writing part command address «data» p }
 {
-    let found = table::part_row(part);
-    let started = start_on(found, part, command, address, data, p);
-    let d = started.driver;
-    if started.answer == 0 {
-        let row = found.row;
-        return d.write_on(row);
-    }
-    Step {
-        answer: started.answer,
-        driver: d,
-        next: Next::Nothing,
-        polls: 0,
+    match check_start(part, command, address, data, p) {
+        Ok(row) => begin(part, command, address, data, p).write_on(row),
+        Err(refusal) => no_driver().end(Phase::Writing, refusal.number()),
     }
 }
 
 impl Driver {
     // Whether n polls are fewer than the most, 2N: found with no division.
+    #[tactic(auto, using(crate::proofs::Polls::left))]
     fn polls_left(self, row: Row, n: u32) -> bool
         requires { 0 < self.p }
         ensures { result ≡ ltb n (most_polls row self.command self.p) }
@@ -184,37 +173,31 @@ impl Driver {
     }
 
     // Whether the count is at most 2N.
+    #[tactic(auto, using(crate::proofs::Polls::left))]
     fn polls_fit(self, row: Row) -> bool
         requires { 0 < self.p }
         ensures { result ≡ leb self.count (most_polls row self.command self.p) }
     {
         let n = self.count;
-        if 0 < n {
-            return self.polls_left(row, n - 1);
-        }
-        true
+        n == 0 || self.polls_left(row, n - 1)
     }
 
     // Whether the count is 1 to 2N.
+    #[tactic(auto, using(parts::proofs::Rules::tests))]
     fn some_polls(self, row: Row) -> bool
         requires { 0 < self.p }
         ensures { result ≡ some_up_to (most_polls row self.command self.p) self.count }
     {
-        if 0 < self.count {
-            return self.polls_fit(row);
-        }
-        false
+        0 < self.count && self.polls_fit(row)
     }
 
     // Whether the count is 2N.
+    #[tactic(auto, using(crate::proofs::Polls::left))]
     fn all_polls(self, row: Row) -> bool
         requires { 0 < self.p }
         ensures { result ≡ eqb self.count (most_polls row self.command self.p) }
     {
-        if self.polls_left(row, self.count) {
-            return false;
-        }
-        self.polls_fit(row)
+        !self.polls_left(row, self.count) && self.polls_fit(row)
     }
 
     // Whether so many writes or polls fit the phase.
@@ -222,8 +205,7 @@ impl Driver {
         requires { 0 < self.p }
         ensures { result ≡ count_fits self.phase (write_count self.command) (most_polls row self.command self.p) self.count }
     {
-        let phase = self.phase;
-        match phase {
+        match self.phase {
             Phase::Writing => self.count < write_count(self.command),
             Phase::Polling => self.polls_fit(row),
             Phase::Confirming => self.some_polls(row),
@@ -233,17 +215,19 @@ impl Driver {
         }
     }
 
-    // Whether the state is in range, its part looked up.
-    fn in_range(self, found: Found) -> bool
-        requires { found ≡ found_of self.part }
-        ensures { result ≡ in_range self }
+    // The row of the part, where the state is in range.
+    #[tactic(auto, unfolding(crate::specs::Machine::in_range), using(parts::proofs::Told::refused))]
+    fn row_in_range(self) -> Option<Row>
+        ensures variant { is_some result ≡ in_range self }
+        ensures row { IfSome result (λ r. r ≡ row_of self.part) }
+        ensures fits { IfSome result (λ r. CodesAndTimesFit r × (r.width ≤ 16)) }
+        ensures interval { OnSome result (0 < self.p) }
     {
-        let answer = start_refusal(found, self.command, self.address, self.data, self.p);
-        if 0 < answer {
-            return false;
+        let row = check_start(self.part, self.command, self.address, self.data, self.p).ok()?;
+        if !self.count_fits(row) {
+            return None;
         }
-        let row = found.row;
-        self.count_fits(row)
+        Some(row)
     }
 
     // The same driver in a phase, with a count.
@@ -251,13 +235,9 @@ impl Driver {
         ensures { result ≡ moved self phase count }
     {
         Driver {
-            part: self.part,
-            command: self.command,
-            address: self.address,
-            data: self.data,
-            p: self.p,
             phase,
             count,
+            ..self
         }
     }
 
@@ -274,6 +254,7 @@ impl Driver {
     }
 
     // The driver once it has named a write.
+    #[tactic(auto, unfolding(crate::specs::Machine::after_write), using(crate::proofs::Ready::counts, parts::proofs::Rules::tests))]
     fn after_write(self) -> Driver
         requires { self.count < write_count self.command }
         ensures { result ≡ after_write self }
@@ -286,6 +267,7 @@ impl Driver {
     }
 
     // Names the next write.
+    #[tactic(auto, unfolding(crate::specs::Machine::writing_of))]
     fn write_on(self, row: Row) -> Step
         requires codes_and_times_fit { CodesAndTimesFit row }
         requires count_bound { self.count < write_count self.command }
@@ -324,6 +306,7 @@ impl Driver {
     }
 
     // Names the confirming read.
+    #[tactic(auto, unfolding(crate::specs::Machine::confirm_after))]
     fn confirm(self) -> Step
         ensures { result ≡ confirms self }
     {
@@ -338,16 +321,15 @@ impl Driver {
     }
 
     // Whether the reply to a poll shows the wanted bit 7.
+    #[tactic(auto, unfolding(crate::specs::Machine::matches), using(parts::proofs::Rules::tests))]
     fn is_match(self, read: u16) -> bool
         ensures { result ≡ matches self read }
     {
-        if 0 < self.count {
-            return bit_seven(read) == bit_wanted(self.command, self.data);
-        }
-        false
+        0 < self.count && bit_seven(read) == bit_wanted(self.command, self.data)
     }
 
     // Polls on, confirms or gives up.
+    #[tactic(auto, unfolding(crate::specs::Machine::polling_of), using(crate::proofs::Ready::counts))]
     fn poll_on(self, row: Row, read: u16) -> Step
         requires codes_and_times_fit { CodesAndTimesFit row }
         requires p_nonzero { 0 < self.p }
@@ -359,10 +341,11 @@ impl Driver {
         if self.polls_left(row, self.count) {
             return self.poll();
         }
-        self.end(Phase::GaveUp, GAVE_UP)
+        self.end(Phase::GaveUp, Refusal::GaveUp.number())
     }
 
     // Compares the confirming read.
+    #[tactic(auto, unfolding(crate::specs::Machine::confirming_of), using(parts::proofs::Rules::tests))]
     fn compare(self, row: Row, read: u16) -> Step
         requires { row.width ≤ 16 }
         ensures { result ≡ confirming_of row self read }
@@ -370,31 +353,29 @@ impl Driver {
         if parts::value(row.width, read) == value_wanted(row, self.command, self.data) {
             return self.end(Phase::Done, 0);
         }
-        self.end(Phase::Differs, DIFFERS)
+        self.end(Phase::Differs, Refusal::Differs.number())
     }
 
     // Given the value last read, names the next cycle or the end: 5 for a state out of range.
+    #[tactic(auto, unfolding(crate::specs::Machine::step_of), using(crate::proofs::Ready::counts))]
     pub fn step(self, read: u16) -> Step
         ensures { result ≡ step_of self read }
     {
-        let found = table::part_row(self.part);
-        if !self.in_range(found) {
+        let Some(row) = self.row_in_range() else {
             return Step {
-                answer: BAD_STATE,
+                answer: Refusal::BadState.number(),
                 driver: self,
                 next: Next::Nothing,
                 polls: 0,
             };
-        }
-        let row = found.row;
-        let phase = self.phase;
-        match phase {
+        };
+        match self.phase {
             Phase::Writing => self.write_on(row),
             Phase::Polling => self.poll_on(row, read),
             Phase::Confirming => self.compare(row, read),
             Phase::Done => self.end(Phase::Done, 0),
-            Phase::GaveUp => self.end(Phase::GaveUp, GAVE_UP),
-            Phase::Differs => self.end(Phase::Differs, DIFFERS),
+            Phase::GaveUp => self.end(Phase::GaveUp, Refusal::GaveUp.number()),
+            Phase::Differs => self.end(Phase::Differs, Refusal::Differs.number()),
         }
     }
 }

@@ -2,30 +2,22 @@
 ghost use Rattle.std.specs.Prelude.{◌≡◌, ◌<◌, eqb};
 ghost use Rattle.parts.specs.Pick.{pick};
 ghost use Rattle.driver.specs.Fits.{CodesAndTimesFit};
-ghost use Rattle.driver.specs.Writes.{command_writes, kth_write, last_write, nth_write, write, write_count, writes, writes_of};
+ghost use Rattle.driver.specs.Writes.{command_writes, kth_write, last_write, nth_write, six_places, told_write, told_writes, write, write_count, writes_of};
 
-use crate::refusals::command_refusal;
+use crate::refusals::check_command;
 use commands::Write;
-use parts::Row;
-use parts::names::{BLOCK, NO_ENTRY, PROGRAM, SECTOR};
+use parts::names::{BLOCK, PROGRAM, SECTOR};
+use parts::{Refusal, Row};
 
-// One command's writes: 0 or the refusal, how many they are, and the writes, unused places zero.
+// One command's writes: how many they are, and the writes, unused places zero.
 #[derive(Clone, Copy)]
 pub struct Writes {
-    pub answer: u32,
     pub count: u32,
     pub writes: [Write; 6],
 }
 
-// One write: 0 or the refusal, its address and its data.
-#[derive(Clone, Copy)]
-pub struct Kth {
-    pub answer: u32,
-    pub address: u32,
-    pub data: u16,
-}
-
 // How many writes a command has.
+#[tactic(auto, unfolding(crate::specs::Writes::write_count), using(parts::proofs::Rules::tests))]
 pub(crate) fn write_count(command: u32) -> u32
     ensures { result ≡ write_count command }
 {
@@ -56,6 +48,7 @@ fn unlock_two(row: Row) -> Write
 }
 
 // A0H at U1 arms program, 80H at U1 goes on to an erase.
+#[tactic(auto, using(parts::proofs::Rules::tests))]
 fn third_write(row: Row, command: u32) -> Write
     ensures { result ≡ write row.u1 (pick (eqb command 0) 0xa0 0x80) }
 {
@@ -72,6 +65,7 @@ fn third_write(row: Row, command: u32) -> Write
 }
 
 // The write that starts the operation.
+#[tactic(auto, unfolding(crate::specs::Writes::last_write), using(parts::proofs::Rules::tests))]
 fn last_write(row: Row, command: u32, address: u32, data: u16) -> Write
     requires { CodesAndTimesFit row }
     ensures { result ≡ last_write row command address «data» }
@@ -100,9 +94,10 @@ fn last_write(row: Row, command: u32, address: u32, data: u16) -> Write
 }
 
 // The writes of a command in six places.
+#[tactic(auto, unfolding(crate::specs::Writes::writes_of, crate::specs::Writes::write_count), using(parts::proofs::Rules::tests))]
 fn writes_of(row: Row, command: u32, address: u32, data: u16) -> Writes
     requires { CodesAndTimesFit row }
-    ensures { result ≡ writes 0 (write_count command) (writes_of row command address «data») }
+    ensures { result ≡ record { count = write_count command; writes = six_places (writes_of row command address «data») } }
 {
     let none = Write {
         address: 0,
@@ -114,19 +109,18 @@ fn writes_of(row: Row, command: u32, address: u32, data: u16) -> Writes
     let last = last_write(row, command, address, data);
     if command == PROGRAM {
         return Writes {
-            answer: 0,
             count: 4,
             writes: [one, two, three, last, none, none],
         };
     }
     Writes {
-        answer: 0,
         count: 6,
         writes: [one, two, three, one, two, last],
     }
 }
 
 // The k-th of a command's writes.
+#[tactic(auto, using(crate::proofs::Nth::places, crate::proofs::Ready::counts))]
 pub(crate) fn nth_write(row: Row, command: u32, address: u32, data: u16, k: u32) -> Write
     requires codes_and_times_fit { CodesAndTimesFit row }
     requires k_bound { k < write_count command }
@@ -145,54 +139,22 @@ pub(crate) fn nth_write(row: Row, command: u32, address: u32, data: u16, k: u32)
 }
 
 // One command's writes together: refusals 1, 14, 3, 4.
-pub fn command_writes(part: u32, command: u32, address: u32, data: u16) -> Writes
-    ensures { result ≡ command_writes part command address «data» }
+#[tactic(auto, unfolding(crate::specs::Writes::command_writes), using(parts::proofs::Told::refused))]
+pub fn command_writes(part: u32, command: u32, address: u32, data: u16) -> Result<Writes, Refusal>
+    ensures { told_writes result ≡ command_writes part command address «data» }
 {
-    let found = table::part_row(part);
-    let answer = command_refusal(found, command, address, data);
-    if 0 < answer {
-        let none = Write {
-            address: 0,
-            data: 0,
-        };
-        return Writes {
-            answer,
-            count: 0,
-            writes: [none; 6],
-        };
-    }
-    let row = found.row;
-    writes_of(row, command, address, data)
-}
-
-// A refused write.
-fn refused(answer: u32) -> Kth
-    ensures { result ≡ record { answer = answer; address = 0; «data» = 0 } }
-{
-    Kth {
-        answer,
-        address: 0,
-        data: 0,
-    }
+    let row = check_command(part, command, address, data)?;
+    Ok(writes_of(row, command, address, data))
 }
 
 // The k-th write of a command, from 0: refusals 1, 14, 3, 4, 15.
-pub fn kth_write(part: u32, command: u32, address: u32, data: u16, k: u32) -> Kth
-    ensures { result ≡ kth_write part command address «data» k }
+#[tactic(auto, unfolding(crate::specs::Writes::kth_write), using(parts::proofs::Told::refused, parts::proofs::Rules::tests))]
+pub fn kth_write(part: u32, command: u32, address: u32, data: u16, k: u32) -> Result<Write, Refusal>
+    ensures { told_write result ≡ kth_write part command address «data» k }
 {
-    let found = table::part_row(part);
-    let answer = command_refusal(found, command, address, data);
-    if 0 < answer {
-        return refused(answer);
-    }
+    let row = check_command(part, command, address, data)?;
     if write_count(command) <= k {
-        return refused(NO_ENTRY);
+        return Err(Refusal::NoEntry);
     }
-    let row = found.row;
-    let w = nth_write(row, command, address, data, k);
-    Kth {
-        answer: 0,
-        address: w.address,
-        data: w.data,
-    }
+    Ok(nth_write(row, command, address, data, k))
 }
