@@ -45,31 +45,21 @@ fn is_at(row: Row, unlock: u32, a: u32, x: u16, byte: u32) -> bool
     compared(row, a) == unlock && x as u32 % 256 == byte
 }
 
-// On to a stage, or broken.
-fn on(met: bool, stage: u32) -> Effect
-    ensures { result ≡ pick met (Effect.Goes stage) broken }
-{
-    if met { Effect::Goes(stage) } else { BROKEN }
-}
-
 // The third write, after 55H.
 #[tactic(auto, unfolding(crate::specs::Commands::effect_of), using(parts::proofs::Rules::tests))]
 fn third_write(row: Row, a: u32, x: u16) -> Effect
     ensures { result ≡ effect_of row FIRST-55H a x }
 {
-    if is_at(row, row.u1, a, x, 0xa0) {
-        return Effect::Goes(ARMED);
+    if compared(row, a) != row.u1 {
+        return BROKEN;
     }
-    if is_at(row, row.u1, a, x, 0x80) {
-        return Effect::Goes(GONE_ON);
+    match x as u32 % 256 {
+        0xa0 => Effect::Goes(ARMED),
+        0x80 => Effect::Goes(GONE_ON),
+        0x90 => Effect::Enters(Mode::Identification),
+        0xf0 => Effect::Enters(Mode::ReadMode),
+        _ => BROKEN,
     }
-    if is_at(row, row.u1, a, x, 0x90) {
-        return Effect::Enters(Mode::Identification);
-    }
-    if is_at(row, row.u1, a, x, 0xf0) {
-        return Effect::Enters(Mode::ReadMode);
-    }
-    BROKEN
 }
 
 // The block code: a block erase where the part has blocks.
@@ -106,12 +96,12 @@ pub fn effect_of(row: Row, stage: u32, a: u32, x: u16) -> Effect
     ensures { result ≡ effect_of row stage a x }
 {
     match stage {
-        NONE_BEGUN => on(is_at(row, row.u1, a, x, 0xaa), FIRST_AAH),
-        FIRST_AAH => on(is_at(row, row.u2, a, x, 0x55), FIRST_55H),
+        NONE_BEGUN if is_at(row, row.u1, a, x, 0xaa) => Effect::Goes(FIRST_AAH),
+        FIRST_AAH if is_at(row, row.u2, a, x, 0x55) => Effect::Goes(FIRST_55H),
         FIRST_55H => third_write(row, a, x),
         ARMED => Effect::Starts(PROGRAM),
-        GONE_ON => on(is_at(row, row.u1, a, x, 0xaa), SECOND_AAH),
-        SECOND_AAH => on(is_at(row, row.u2, a, x, 0x55), SECOND_55H),
+        GONE_ON if is_at(row, row.u1, a, x, 0xaa) => Effect::Goes(SECOND_AAH),
+        SECOND_AAH if is_at(row, row.u2, a, x, 0x55) => Effect::Goes(SECOND_55H),
         SECOND_55H => last_write(row, a, x),
         _ => BROKEN,
     }

@@ -9,7 +9,7 @@ use parts::names::NONE_BEGUN;
 // An operation: its command's number, address and data, the µs left, and what bit 6 shows at the
 // next busy read. It is pending exactly while time is left. The order of its fields is that in which a
 // job took the fewest instructions (docs/MEASURED.md).
-#[derive(Clone, Copy)]
+#[derive(Clone, Copy, PartialEq, Eq, Debug, Default)]
 pub struct Operation {
     pub kind: u32,
     pub left: u32,
@@ -21,7 +21,7 @@ pub struct Operation {
 // All of a device but its write sequence: time, reads and cuts use nothing else. A recent completion is one 0 µs old; it
 // stands beside the mode, since behind what runs it made a job slower (docs/DECISIONS.md, W5). Bit 2 has turned where the
 // next read that shows it shows 0.
-#[derive(Clone, Copy)]
+#[derive(Clone, Copy, PartialEq, Eq, Debug)]
 pub struct Core {
     pub mode: Mode,
     pub recent: bool,
@@ -31,7 +31,7 @@ pub struct Core {
 }
 
 // The stage is one of the seven of a write sequence (parts::names).
-#[derive(Clone, Copy)]
+#[derive(Clone, Copy, PartialEq, Eq, Debug)]
 pub struct Device {
     pub core: Core,
     pub stage: u32,
