@@ -11,8 +11,9 @@ use parts::names::{
 };
 
 // What a mode shows at rest: the cells, or the identity.
-#[derive(Clone, Copy, PartialEq, Eq, Debug)]
+#[derive(Clone, Copy, PartialEq, Eq, Debug, Default)]
 pub enum Mode {
+    #[default]
     ReadMode,
     Identification,
 }
