@@ -28,15 +28,6 @@ pub(crate) fn cells_of(row: Row, o: Operation) -> Span
     }
 }
 
-// Each cell becomes v.
-fn fill(cells: &mut [u16], v: u16)
-    ensures { cells.new ≡ map (λ x. v) cells.old }
-{
-    for cell in cells.iter_mut() {
-        *cell = v;
-    }
-}
-
 // Each cell becomes its value OR the scar.
 fn scar_each(cells: &mut [u16], width: u32, scar: u16)
     ensures { cells.new ≡ map (λ x. bit_or (value_of width x) scar) cells.old }
@@ -60,7 +51,7 @@ pub(crate) fn complete(cells: &mut [u16], row: Row, o: Operation)
     let span = cells_of(row, o);
     let first = span.first as usize;
     let end = first + span.count as usize;
-    fill(&mut cells[first..end], parts::blank(row.width));
+    cells[first..end].fill(parts::blank(row.width));
 }
 
 // The operation is cut short.
