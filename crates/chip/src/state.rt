@@ -87,10 +87,13 @@ pub(crate) fn resume(core: Core) -> Core
 pub(crate) fn aged_by(core: Core, elapsed: u32) -> Core
     ensures { result ≡ aged_by core elapsed }
 {
-    Core {
-        recent: core.recent && elapsed == 0,
-        ..core
+    if 0 < elapsed {
+        return Core {
+            recent: false,
+            ..core
+        };
     }
+    core
 }
 
 // Whether an operation runs.
