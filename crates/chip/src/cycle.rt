@@ -18,7 +18,7 @@ use parts::names::{
 use parts::{Found, Row};
 
 // The refusal of an address and data to write.
-#[tactic(auto, unfolding(device::specs::Cycle::action_refusal), using(parts::proofs::Rules::tests))]
+#[tactic(auto, unfolding(device::specs::Cycle::action_refusal))]
 fn write_refusal(row: Row, a: u32, x: u16) -> u32
     ensures { result ≡ action_refusal row (Action.Write a x) }
 {
@@ -32,7 +32,7 @@ fn write_refusal(row: Row, a: u32, x: u16) -> u32
 }
 
 // The refusal of an address to read.
-#[tactic(auto, unfolding(device::specs::Cycle::action_refusal), using(parts::proofs::Rules::tests))]
+#[tactic(auto, unfolding(device::specs::Cycle::action_refusal))]
 fn read_refusal(row: Row, a: u32) -> u32
     ensures { result ≡ action_refusal row (Action.Read a) }
 {
@@ -43,7 +43,7 @@ fn read_refusal(row: Row, a: u32) -> u32
 }
 
 // The refusal of what a cycle does.
-#[tactic(auto, unfolding(device::specs::Cycle::action_refusal), using(parts::proofs::Rules::tests))]
+#[tactic(auto, unfolding(device::specs::Cycle::action_refusal))]
 fn action_refusal(row: Row, action: Action) -> u32
     ensures { result ≡ action_refusal row action }
 {
@@ -74,7 +74,7 @@ fn cycle_refusal(found: Found, lent: usize, d: Device, action: Action) -> u32
 }
 
 // Time passes.
-#[tactic(auto, unfolding(device::specs::Cycle::settled_of), using(parts::proofs::Rules::tests))]
+#[tactic(auto, unfolding(device::specs::Cycle::settled_of))]
 fn settle(cells: &mut [u16], row: Row, core: Core, elapsed: u32) -> Core
     requires in_words { InWords row }
     requires runs_inside { RunsInside row core (length cells.old) }
@@ -119,7 +119,7 @@ fn bit_6(o: Operation) -> u16
 
 // Whether bit 2 tells of an erase at an address: in its range, on the parts that can suspend one. The range is not made: each poll of
 // an erase asks this.
-#[tactic(auto, unfolding(device::specs::Cycle::tells, device::specs::Operation::cells_of, parts::specs::Span::holdsb), using(parts::proofs::Rules::tests))]
+#[tactic(auto, unfolding(device::specs::Cycle::tells, device::specs::Operation::cells_of, parts::specs::Span::holdsb))]
 fn tells_of(row: Row, o: Operation, a: u32) -> bool
     ensures { result ≡ tells row o a }
 {
@@ -198,7 +198,7 @@ fn mode_shows(cells: &[u16], row: Row, mode: Mode, a: u32) -> u16
 }
 
 // Whether a suspended erase veils an address: one of its range, in read mode.
-#[tactic(auto, unfolding(device::specs::Cycle::veils), using(parts::proofs::Rules::tests))]
+#[tactic(auto, unfolding(device::specs::Cycle::veils))]
 fn is_veiled(row: Row, core: Core, a: u32) -> bool
     ensures { result ≡ veils row core a }
 {
@@ -283,7 +283,7 @@ fn cut_one(cells: &mut [u16], row: Row, o: Operation, scar: u16)
 }
 
 // A power cut, after its time has passed: what runs and what is suspended are cut short.
-#[tactic(auto, unfolding(device::specs::Cycle::cut_of), using(parts::proofs::Rules::tests))]
+#[tactic(auto, unfolding(device::specs::Cycle::cut_of))]
 fn cut(cells: &mut [u16], row: Row, core: Core, scar: u16)
     requires { RunsInside row core (length cells.old) }
     ensures { cells.new ≡ cut_of row cells.old core scar }
@@ -307,7 +307,7 @@ fn read_cycle(cells: &[u16], row: Row, d: Device, a: u32) -> Reply
 }
 
 // A write to a device.
-#[tactic(auto, unfolding(device::specs::Sequence::written_of), using(parts::proofs::Rules::tests))]
+#[tactic(auto, unfolding(device::specs::Sequence::written_of))]
 fn write_cycle(row: Row, d: Device, wp: bool, a: u32, x: u16) -> Reply
     ensures { result ≡ reply 0 0 (written_of row d wp a x) }
 {
@@ -337,7 +337,7 @@ fn act(cells: &mut [u16], row: Row, d: Device, wp: bool, action: Action) -> Repl
     ensures { (result ≡ (acted_of row (chip cells.old d) wp action).reply) × (cells.new ≡ (acted_of row (chip cells.old d) wp action).cells) }
 {
     match action {
-        Action::Read(a) => read_cycle(&*cells, row, d, a),
+        Action::Read(a) => read_cycle(cells, row, d, a),
         Action::Write(a, x) => write_cycle(row, d, wp, a, x),
         Action::Idle => Reply {
             answer: 0,
@@ -345,7 +345,7 @@ fn act(cells: &mut [u16], row: Row, d: Device, wp: bool, action: Action) -> Repl
             device: d,
         },
         Action::Cut(scar) => {
-            cut(&mut *cells, row, d.core, scar);
+            cut(cells, row, d.core, scar);
             Reply {
                 answer: 0,
                 value: 0,

@@ -1,5 +1,5 @@
 // The model of the chips: one bus cycle on lent cells and a device state by value, as crate device defines it.
-#![tactic(auto, using(parts::proofs::Rules::tests))]
+#![tactic(auto)]
 
 mod cycle;
 mod operation;

@@ -10,7 +10,7 @@ use parts::names::{BLOCK, PROGRAM, SECTOR};
 use parts::{Row, Span};
 
 // The cells of an operation.
-#[tactic(auto, unfolding(device::specs::Operation::cells_of), using(parts::proofs::Rules::tests))]
+#[tactic(auto, unfolding(device::specs::Operation::cells_of))]
 pub(crate) fn cells_of(row: Row, o: Operation) -> Span
     ensures { result ≡ cells_of row o }
 {

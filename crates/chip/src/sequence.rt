@@ -11,7 +11,7 @@ use parts::Row;
 use parts::names::{CHIP, NONE_BEGUN, RESUME_CODE, SUSPEND_CODE};
 
 // Whether WP# protects from a command at an address.
-#[tactic(auto, unfolding(device::specs::Sequence::ignored), using(parts::proofs::Rules::tests))]
+#[tactic(auto, unfolding(device::specs::Sequence::ignored))]
 fn is_ignored(row: Row, wp: bool, command: u32, a: u32) -> bool
     ensures { result ≡ ignored row wp command a }
 {
@@ -26,7 +26,7 @@ fn is_ignored(row: Row, wp: bool, command: u32, a: u32) -> bool
 }
 
 // Whether a command is passed over: a suspended erase bars it, or WP# protects from it.
-#[tactic(auto, unfolding(device::specs::Sequence::passed_over), using(parts::proofs::Rules::tests))]
+#[tactic(auto, unfolding(device::specs::Sequence::passed_over))]
 fn is_passed_over(row: Row, core: Core, wp: bool, command: u32, a: u32) -> bool
     ensures { result ≡ passed_over row core wp command a }
 {
@@ -91,22 +91,21 @@ fn resumes(core: Core, stage: u32, x: u16) -> bool
 }
 
 // A write that does not suspend: while busy it does nothing; else it resumes, or has its effect.
-#[tactic(auto, unfolding(device::specs::Sequence::written_of), using(parts::proofs::Rules::tests))]
+#[tactic(auto, unfolding(device::specs::Sequence::written_of))]
 pub(crate) fn written(row: Row, d: Device, wp: bool, a: u32, x: u16) -> Device
     requires { pick (busy d.core) (suspending row d.core x) false ≡ false }
     ensures { result ≡ written_of row d wp a x }
 {
     let core = d.core;
-    let stage = d.stage;
     if is_busy(core) {
         return d;
     }
-    if resumes(core, stage, x) {
+    if resumes(core, d.stage, x) {
         return Device {
             core: resume(core),
             stage: NONE_BEGUN,
         };
     }
-    let effect = commands::effect_of(row, stage, a, x);
+    let effect = commands::effect_of(row, d.stage, a, x);
     after_effect(row, core, wp, a, x, effect)
 }

@@ -17,7 +17,7 @@ pub(crate) fn is_pending(o: Operation) -> bool
 }
 
 // Whether, suspended, it bars a command at an address.
-#[tactic(auto, unfolding(device::specs::Device::barred), using(parts::proofs::Rules::tests))]
+#[tactic(auto, unfolding(device::specs::Device::barred))]
 pub(crate) fn bars(row: Row, o: Operation, command: u32, address: u32) -> bool
     ensures { result ≡ barred row o command address }
 {
@@ -25,7 +25,7 @@ pub(crate) fn bars(row: Row, o: Operation, command: u32, address: u32) -> bool
 }
 
 // Whether, suspended, it is one that the part can have so.
-#[tactic(auto, unfolding(device::specs::Device::valid_suspended), using(parts::proofs::Rules::tests))]
+#[tactic(auto, unfolding(device::specs::Device::valid_suspended))]
 fn is_valid_suspended(row: Row, o: Operation) -> bool
     ensures { result ≡ valid_suspended row o }
 {
@@ -33,7 +33,7 @@ fn is_valid_suspended(row: Row, o: Operation) -> bool
 }
 
 // Whether, with time left, it is one that the part can be at.
-#[tactic(auto, unfolding(device::specs::Device::valid_operation), using(parts::proofs::Rules::tests))]
+#[tactic(auto, unfolding(device::specs::Device::valid_operation))]
 fn is_valid(row: Row, o: Operation) -> bool
     ensures { result ≡ valid_operation row o }
 {
@@ -44,7 +44,7 @@ fn is_valid(row: Row, o: Operation) -> bool
 }
 
 // Whether a command is one that can be suspended: a sector or block erase, on a part that says so.
-#[tactic(auto, unfolding(device::specs::Device::suspendable), using(parts::proofs::Rules::tests))]
+#[tactic(auto, unfolding(device::specs::Device::suspendable))]
 pub(crate) fn is_suspendable(row: Row, command: u32) -> bool
     ensures { result ≡ suspendable row command }
 {
@@ -111,7 +111,7 @@ pub(crate) fn is_held(core: Core) -> bool
 }
 
 // Whether what runs is in range for the part.
-#[tactic(auto, unfolding(device::specs::Device::runs_in_range), using(parts::proofs::Rules::tests))]
+#[tactic(auto, unfolding(device::specs::Device::runs_in_range))]
 fn runs_in_range(row: Row, core: Core) -> bool
     ensures { result ≡ runs_in_range row core }
 {
@@ -119,7 +119,7 @@ fn runs_in_range(row: Row, core: Core) -> bool
 }
 
 // Whether what is suspended, where something is, is in range for the part.
-#[tactic(auto, unfolding(device::specs::Device::held_in_range), using(parts::proofs::Rules::tests))]
+#[tactic(auto, unfolding(device::specs::Device::held_in_range))]
 fn holds_in_range(row: Row, core: Core) -> bool
     ensures { result ≡ pick (held core) (held_in_range row core) true }
 {
@@ -139,7 +139,7 @@ pub(crate) fn with_core(d: Device, core: Core) -> Device
 }
 
 // Whether the state is in range for the part.
-#[tactic(auto, unfolding(device::specs::Device::device_in_range, device::specs::Device::stage_in_range, device::specs::Device::core_in_range), using(parts::proofs::Rules::tests))]
+#[tactic(auto, unfolding(device::specs::Device::device_in_range, device::specs::Device::stage_in_range, device::specs::Device::core_in_range))]
 pub(crate) fn in_range(row: Row, d: Device) -> bool
     ensures { result ≡ device_in_range row d }
 {

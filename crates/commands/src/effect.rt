@@ -47,7 +47,7 @@ fn is_at(row: Row, unlock: u32, a: u32, x: u16, byte: u32) -> bool
 }
 
 // The third write, after 55H.
-#[tactic(auto, unfolding(crate::specs::Commands::effect_of), using(parts::proofs::Rules::tests))]
+#[tactic(auto, unfolding(crate::specs::Commands::effect_of))]
 fn third_write(row: Row, a: u32, x: u16) -> Effect
     ensures { result ≡ effect_of row FIRST-55H a x }
 {
@@ -74,7 +74,7 @@ fn block_erase(row: Row) -> Effect
 }
 
 // The last write of an erase, after the second 55H.
-#[tactic(auto, unfolding(crate::specs::Commands::effect_of), using(parts::proofs::Rules::tests))]
+#[tactic(auto, unfolding(crate::specs::Commands::effect_of))]
 fn last_write(row: Row, a: u32, x: u16) -> Effect
     ensures { result ≡ effect_of row SECOND-55H a x }
 {
@@ -92,7 +92,7 @@ fn last_write(row: Row, a: u32, x: u16) -> Effect
 }
 
 // What follows from a write at a stage of the sequence.
-#[tactic(auto, unfolding(crate::specs::Commands::effect_of), using(parts::proofs::Rules::tests))]
+#[tactic(auto, unfolding(crate::specs::Commands::effect_of))]
 pub fn effect_of(row: Row, stage: u32, a: u32, x: u16) -> Effect
     ensures { result ≡ effect_of row stage a x }
 {
