@@ -8,19 +8,17 @@ ghost use Rattle.device.specs.Needs.{InWords, RunsInside};
 
 use crate::operation::{complete, cut_short};
 use crate::sequence::{suspends, written};
-use crate::state::{
-    aged_by, at_rest, in_range, is_busy, is_held, is_pending, reads_cells, suspend, toggled,
-    with_core, with_left, with_running, with_turned,
-};
+use crate::state::{aged_by, in_range, is_busy, is_held, is_pending, suspend, with_core};
 use commands::Mode;
-use device::{Action, Core, Cycle, Device, Operation, Reply, Shown};
+use device::{Action, Core, Cycle, Device, Operation, Reply, Shown, no_operation};
 use parts::names::{
     BAD_STATE, BIT_2, BIT_6, BIT_7, BLOCK, NO_ADDRESS, NONE_BEGUN, PROGRAM, SECTOR, WIDE_DATA,
     WRONG_CELLS,
 };
-use parts::{Found, Row, Span};
+use parts::{Found, Row};
 
 // The refusal of an address and data to write.
+#[tactic(auto, unfolding(device::specs::Cycle::action_refusal))]
 fn write_refusal(row: Row, a: u32, x: u16) -> u32
     ensures { result ≡ action_refusal row (Action.Write a x) }
 {
@@ -34,6 +32,7 @@ fn write_refusal(row: Row, a: u32, x: u16) -> u32
 }
 
 // The refusal of an address to read.
+#[tactic(auto, unfolding(device::specs::Cycle::action_refusal))]
 fn read_refusal(row: Row, a: u32) -> u32
     ensures { result ≡ action_refusal row (Action.Read a) }
 {
@@ -44,6 +43,7 @@ fn read_refusal(row: Row, a: u32) -> u32
 }
 
 // The refusal of what a cycle does.
+#[tactic(auto, unfolding(device::specs::Cycle::action_refusal))]
 fn action_refusal(row: Row, action: Action) -> u32
     ensures { result ≡ action_refusal row action }
 {
@@ -74,21 +74,30 @@ fn cycle_refusal(found: Found, lent: usize, d: Device, action: Action) -> u32
 }
 
 // Time passes.
+#[tactic(auto, unfolding(device::specs::Cycle::settled_of))]
 fn settle(cells: &mut [u16], row: Row, core: Core, elapsed: u32) -> Core
     requires in_words { InWords row }
     requires runs_inside { RunsInside row core (length cells.old) }
     ensures { (result ≡ (settled_of row cells.old core elapsed).core) × (cells.new ≡ (settled_of row cells.old core elapsed).cells) }
 {
-    let o = core.running;
-    let left = o.left;
-    if left <= 0 {
+    if !is_busy(core) {
         return aged_by(core, elapsed);
     }
-    if elapsed < left {
-        return with_running(core, with_left(o, left - elapsed));
+    let o = core.running;
+    if elapsed < o.left {
+        let running = Operation {
+            left: o.left - elapsed,
+            ..o
+        };
+        return Core { running, ..core };
     }
-    complete(&mut *cells, row, o);
-    at_rest(core, elapsed == left)
+    complete(cells, row, o);
+    Core {
+        recent: elapsed == o.left,
+        turned: false,
+        running: no_operation(),
+        ..core
+    }
 }
 
 // Bit 7 while busy.
@@ -105,47 +114,31 @@ fn bit_7(o: Operation) -> u16
 fn bit_6(o: Operation) -> u16
     ensures { result ≡ bit6 o }
 {
-    if o.toggle {
-        return 1;
-    }
-    0
+    u16::from(o.toggle)
 }
 
 // Whether bit 2 tells of an erase at an address: in its range, on the parts that can suspend one. The range is not made: each poll of
 // an erase asks this.
+#[tactic(auto, unfolding(device::specs::Cycle::tells, device::specs::Operation::cells_of, parts::specs::Span::holdsb))]
 fn tells_of(row: Row, o: Operation, a: u32) -> bool
     ensures { result ≡ tells row o a }
 {
     if !row.suspends {
         return false;
     }
-    let kind = o.kind;
-    if kind == PROGRAM {
-        return false;
+    match o.kind {
+        PROGRAM => false,
+        SECTOR => row.sector_of(o.address).holds(a),
+        BLOCK => row.block_of(o.address).holds(a),
+        _ => a < row.cells,
     }
-    if kind == SECTOR {
-        let sector = row.sector_of(o.address);
-        return sector.holds(a);
-    }
-    if kind == BLOCK {
-        let block = row.block_of(o.address);
-        return block.holds(a);
-    }
-    let chip = Span {
-        first: 0,
-        count: row.cells,
-    };
-    chip.holds(a)
 }
 
 // Bit 2 where it tells of an erase.
 fn bit_2(core: Core) -> u16
     ensures { result ≡ bit2 core true }
 {
-    if core.turned {
-        return 0;
-    }
-    1
+    u16::from(!core.turned)
 }
 
 // A busy read: one that shows bit 2 turns it over.
@@ -154,11 +147,18 @@ fn look_busy(row: Row, core: Core, a: u32) -> Shown
 {
     let o = core.running;
     let value = bit_7(o) * BIT_7 + bit_6(o) * BIT_6;
-    let read = with_running(core, toggled(o));
+    let running = Operation {
+        toggle: !o.toggle,
+        ..o
+    };
+    let read = Core { running, ..core };
     if tells_of(row, o, a) {
         return Shown {
             value: value + bit_2(core) * BIT_2,
-            core: with_turned(read, !core.turned),
+            core: Core {
+                turned: !core.turned,
+                ..read
+            },
         };
     }
     Shown { value, core: read }
@@ -169,16 +169,15 @@ fn identity_at(row: Row, a: u32) -> u16
     requires { InWords row }
     ensures { result ≡ identity row a }
 {
-    if a == 0 {
-        return 0xbf;
+    match a {
+        0 => 0xbf,
+        1 => row.device as u16,
+        _ => 0,
     }
-    if a == 1 {
-        return row.device as u16;
-    }
-    0
 }
 
 // All the part's bits but 7 inverted.
+#[tactic(auto, using(crate::proofs::Rules::width))]
 fn invert(width: u32, v: u16) -> u16
     requires { (8 ≤ width) × (width ≤ 16) }
     ensures { result ≡ inverted width v }
@@ -199,18 +198,11 @@ fn mode_shows(cells: &[u16], row: Row, mode: Mode, a: u32) -> u16
 }
 
 // Whether a suspended erase veils an address: one of its range, in read mode.
+#[tactic(auto, unfolding(device::specs::Cycle::veils))]
 fn is_veiled(row: Row, core: Core, a: u32) -> bool
     ensures { result ≡ veils row core a }
 {
-    if !is_held(core) {
-        return false;
-    }
-    let mode = core.mode;
-    if reads_cells(mode) {
-        let s = core.suspended;
-        return tells_of(row, s, a);
-    }
-    false
+    is_held(core) && core.mode == Mode::ReadMode && tells_of(row, core.suspended, a)
 }
 
 // What the outputs show of a value at rest: inverted while a completion is 0 µs old.
@@ -232,7 +224,10 @@ fn look_veiled(row: Row, core: Core) -> Shown
     let v = BIT_7 + BIT_6 + bit_2(core) * BIT_2;
     Shown {
         value: outputs(row.width, core.recent, v),
-        core: with_turned(core, !core.turned),
+        core: Core {
+            turned: !core.turned,
+            ..core
+        },
     }
 }
 
@@ -242,8 +237,7 @@ fn look_plainly(cells: &[u16], row: Row, core: Core, a: u32) -> Shown
     requires a_in_bounds { a < length cells.now }
     ensures { result ≡ showing (outputs_of row.width core.recent (mode_shows row cells.now core.mode a)) core }
 {
-    let mode = core.mode;
-    let v = mode_shows(cells, row, mode, a);
+    let v = mode_shows(cells, row, core.mode, a);
     Shown {
         value: outputs(row.width, core.recent, v),
         core,
@@ -263,6 +257,7 @@ fn look_held(cells: &[u16], row: Row, core: Core, a: u32) -> Shown
 }
 
 // A read, after its time has passed.
+#[tactic(auto, unfolding(device::specs::Cycle::read_of), using(device::proofs::Cases::unveiled))]
 fn look(cells: &[u16], row: Row, core: Core, a: u32) -> Shown
     requires in_words { InWords row }
     requires a_in_bounds { a < length cells.now }
@@ -288,6 +283,7 @@ fn cut_one(cells: &mut [u16], row: Row, o: Operation, scar: u16)
 }
 
 // A power cut, after its time has passed: what runs and what is suspended are cut short.
+#[tactic(auto, unfolding(device::specs::Cycle::cut_of))]
 fn cut(cells: &mut [u16], row: Row, core: Core, scar: u16)
     requires { RunsInside row core (length cells.old) }
     ensures { cells.new ≡ cut_of row cells.old core scar }
@@ -303,25 +299,24 @@ fn read_cycle(cells: &[u16], row: Row, d: Device, a: u32) -> Reply
     ensures { result ≡ (acted_of row (chip cells.now d) true (Action.Read a)).reply }
 {
     let s = look(cells, row, d.core, a);
-    let core = s.core;
     Reply {
         answer: 0,
         value: s.value,
-        device: with_core(d, core),
+        device: with_core(d, s.core),
     }
 }
 
 // A write to a device.
+#[tactic(auto, unfolding(device::specs::Sequence::written_of))]
 fn write_cycle(row: Row, d: Device, wp: bool, a: u32, x: u16) -> Reply
     ensures { result ≡ reply 0 0 (written_of row d wp a x) }
 {
-    let core = d.core;
-    if suspends(row, core, x) {
+    if suspends(row, d.core, x) {
         return Reply {
             answer: 0,
             value: 0,
             device: Device {
-                core: suspend(core),
+                core: suspend(d.core),
                 stage: NONE_BEGUN,
             },
         };
@@ -334,6 +329,7 @@ fn write_cycle(row: Row, d: Device, wp: bool, a: u32, x: u16) -> Reply
 }
 
 // The cycle acts.
+#[tactic(auto, using(crate::proofs::Rules::there))]
 fn act(cells: &mut [u16], row: Row, d: Device, wp: bool, action: Action) -> Reply
     requires in_words { InWords row }
     requires runs_inside { RunsInside row d.core (length cells.old) }
@@ -341,7 +337,7 @@ fn act(cells: &mut [u16], row: Row, d: Device, wp: bool, action: Action) -> Repl
     ensures { (result ≡ (acted_of row (chip cells.old d) wp action).reply) × (cells.new ≡ (acted_of row (chip cells.old d) wp action).cells) }
 {
     match action {
-        Action::Read(a) => read_cycle(&*cells, row, d, a),
+        Action::Read(a) => read_cycle(cells, row, d, a),
         Action::Write(a, x) => write_cycle(row, d, wp, a, x),
         Action::Idle => Reply {
             answer: 0,
@@ -349,7 +345,7 @@ fn act(cells: &mut [u16], row: Row, d: Device, wp: bool, action: Action) -> Repl
             device: d,
         },
         Action::Cut(scar) => {
-            cut(&mut *cells, row, d.core, scar);
+            cut(cells, row, d.core, scar);
             Reply {
                 answer: 0,
                 value: 0,

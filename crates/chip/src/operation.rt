@@ -10,37 +10,21 @@ use parts::names::{BLOCK, PROGRAM, SECTOR};
 use parts::{Row, Span};
 
 // The cells of an operation.
+#[tactic(auto, unfolding(device::specs::Operation::cells_of))]
 pub(crate) fn cells_of(row: Row, o: Operation) -> Span
     ensures { result ≡ cells_of row o }
 {
-    let kind = o.kind;
-    let address = o.address;
-    if kind == PROGRAM {
-        return Span {
-            first: address,
+    match o.kind {
+        PROGRAM => Span {
+            first: o.address,
             count: 1,
-        };
-    }
-    if kind == SECTOR {
-        return row.sector_of(address);
-    }
-    if kind == BLOCK {
-        return row.block_of(address);
-    }
-    Span {
-        first: 0,
-        count: row.cells,
-    }
-}
-
-// Each cell becomes v.
-fn fill(cells: &mut [u16], v: u16)
-    ensures { cells.new ≡ map (λ x. v) cells.old }
-{
-    let mut i: usize = 0;
-    while i < cells.len() {
-        cells[i] = v;
-        i += 1;
+        },
+        SECTOR => row.sector_of(o.address),
+        BLOCK => row.block_of(o.address),
+        _ => Span {
+            first: 0,
+            count: row.cells,
+        },
     }
 }
 
@@ -48,40 +32,37 @@ fn fill(cells: &mut [u16], v: u16)
 fn scar_each(cells: &mut [u16], width: u32, scar: u16)
     ensures { cells.new ≡ map (λ x. bit_or (value_of width x) scar) cells.old }
 {
-    let mut at: usize = 0;
-    while at < cells.len() {
-        let v = parts::value(width, cells[at]);
-        cells[at] = v | scar;
-        at += 1;
+    for cell in cells.iter_mut() {
+        *cell = parts::value(width, *cell) | scar;
     }
 }
 
 // The operation completes on the cells.
+#[tactic(auto, unfolding(device::specs::Operation::complete_on), using(crate::proofs::Rules::completion))]
 pub(crate) fn complete(cells: &mut [u16], row: Row, o: Operation)
     requires o_in_bounds { (cells_of row o).first + (cells_of row o).count ≤ length cells.old }
     requires in_words { InWords row }
     ensures { cells.new ≡ complete_on row o cells.old }
 {
     if o.kind == PROGRAM {
-        let at = o.address as usize;
-        cells[at] = cells[at] & o.data;
+        cells[o.address as usize] &= o.data;
         return;
     }
     let span = cells_of(row, o);
     let first = span.first as usize;
     let end = first + span.count as usize;
-    fill(&mut cells[first..end], parts::blank(row.width));
+    cells[first..end].fill(parts::blank(row.width));
 }
 
 // The operation is cut short.
+#[tactic(auto, unfolding(device::specs::Operation::cut_on), using(crate::proofs::Rules::cut))]
 pub(crate) fn cut_short(cells: &mut [u16], row: Row, o: Operation, scar: u16)
     requires { (cells_of row o).first + (cells_of row o).count ≤ length cells.old }
     ensures { cells.new ≡ cut_on row o scar cells.old }
 {
     let mark = parts::value(row.width, scar);
     if o.kind == PROGRAM {
-        let at = o.address as usize;
-        cells[at] = cells[at] & (o.data | mark);
+        cells[o.address as usize] &= o.data | mark;
         return;
     }
     let span = cells_of(row, o);

@@ -4,13 +4,14 @@ ghost use Rattle.parts.specs.Pick.{pick};
 ghost use Rattle.device.specs.Device.{busy};
 ghost use Rattle.device.specs.Sequence.{after_effect, core_after, ignored, passed_over, resuming, suspending, written_of};
 
-use crate::state::{bars, busy_with, in_mode, is_busy, is_held, is_suspendable, resume};
+use crate::state::{bars, is_busy, is_held, is_suspendable, resume};
 use commands::{Effect, Mode};
 use device::{Core, Device, Operation};
 use parts::Row;
 use parts::names::{CHIP, NONE_BEGUN, RESUME_CODE, SUSPEND_CODE};
 
 // Whether WP# protects from a command at an address.
+#[tactic(auto, unfolding(device::specs::Sequence::ignored))]
 fn is_ignored(row: Row, wp: bool, command: u32, a: u32) -> bool
     ensures { result ≡ ignored row wp command a }
 {
@@ -25,14 +26,11 @@ fn is_ignored(row: Row, wp: bool, command: u32, a: u32) -> bool
 }
 
 // Whether a command is passed over: a suspended erase bars it, or WP# protects from it.
+#[tactic(auto, unfolding(device::specs::Sequence::passed_over))]
 fn is_passed_over(row: Row, core: Core, wp: bool, command: u32, a: u32) -> bool
     ensures { result ≡ passed_over row core wp command a }
 {
-    let s = core.suspended;
-    if bars(row, s, command, a) {
-        return true;
-    }
-    is_ignored(row, wp, command, a)
+    bars(row, core.suspended, command, a) || is_ignored(row, wp, command, a)
 }
 
 // The operation starts, unless it is passed over.
@@ -40,16 +38,25 @@ fn start(row: Row, core: Core, wp: bool, command: u32, a: u32, x: u16) -> Core
     ensures { result ≡ core_after row core wp a x (Effect.Starts command) }
 {
     if is_passed_over(row, core, wp, command, a) {
-        return in_mode(core, Mode::ReadMode);
+        return Core {
+            mode: Mode::ReadMode,
+            ..core
+        };
     }
-    let operation = Operation {
+    let running = Operation {
         kind: command,
         address: a,
         data: x,
         left: row.time(command),
         toggle: true,
     };
-    busy_with(core, operation)
+    Core {
+        mode: Mode::ReadMode,
+        recent: false,
+        turned: false,
+        running,
+        ..core
+    }
 }
 
 // The device after an effect.
@@ -63,7 +70,7 @@ fn after_effect(row: Row, core: Core, wp: bool, a: u32, x: u16, effect: Effect) 
             stage: NONE_BEGUN,
         },
         Effect::Enters(mode) => Device {
-            core: in_mode(core, mode),
+            core: Core { mode, ..core },
             stage: NONE_BEGUN,
         },
     }
@@ -73,45 +80,32 @@ fn after_effect(row: Row, core: Core, wp: bool, a: u32, x: u16, effect: Effect) 
 pub(crate) fn suspends(row: Row, core: Core, x: u16) -> bool
     ensures { result ≡ pick (busy core) (suspending row core x) false }
 {
-    if x % 256 != SUSPEND_CODE {
-        return false;
-    }
-    if is_busy(core) {
-        let o = core.running;
-        return is_suspendable(row, o.kind);
-    }
-    false
+    x % 256 == SUSPEND_CODE && is_busy(core) && is_suspendable(row, core.running.kind)
 }
 
 // Whether a write at a stage, with nothing running, resumes what is suspended.
 fn resumes(core: Core, stage: u32, x: u16) -> bool
     ensures { result ≡ resuming core stage x }
 {
-    if x % 256 != RESUME_CODE {
-        return false;
-    }
-    if stage == NONE_BEGUN {
-        return is_held(core);
-    }
-    false
+    x % 256 == RESUME_CODE && stage == NONE_BEGUN && is_held(core)
 }
 
 // A write that does not suspend: while busy it does nothing; else it resumes, or has its effect.
+#[tactic(auto, unfolding(device::specs::Sequence::written_of))]
 pub(crate) fn written(row: Row, d: Device, wp: bool, a: u32, x: u16) -> Device
     requires { pick (busy d.core) (suspending row d.core x) false ≡ false }
     ensures { result ≡ written_of row d wp a x }
 {
     let core = d.core;
-    let stage = d.stage;
     if is_busy(core) {
         return d;
     }
-    if resumes(core, stage, x) {
+    if resumes(core, d.stage, x) {
         return Device {
             core: resume(core),
             stage: NONE_BEGUN,
         };
     }
-    let effect = commands::effect_of(row, stage, a, x);
+    let effect = commands::effect_of(row, d.stage, a, x);
     after_effect(row, core, wp, a, x, effect)
 }

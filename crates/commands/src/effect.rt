@@ -1,8 +1,8 @@
 // The writes in sequence: what follows from a write.
-ghost use Rattle.std.specs.Prelude.{◌≡◌, ◌%◌};
+ghost use Rattle.std.specs.Prelude.{◌≡◌, ◌==◌, ◌%◌, false};
 ghost use Rattle.parts.specs.Names.{FIRST-55H, SECOND-55H};
 ghost use Rattle.parts.specs.Pick.{pick};
-ghost use Rattle.commands.specs.Commands.{AtU1, AtU2, block_erase, broken, effect_of, is_wanted};
+ghost use Rattle.commands.specs.Commands.{block_erase, broken, effect_of};
 
 use parts::Row;
 use parts::names::{
@@ -11,14 +11,15 @@ use parts::names::{
 };
 
 // What a mode shows at rest: the cells, or the identity.
-#[derive(Clone, Copy)]
+#[derive(Clone, Copy, PartialEq, Eq, Debug, Default)]
 pub enum Mode {
+    #[default]
     ReadMode,
     Identification,
 }
 
 // What follows: the sequence goes on to a stage, a command's operation starts, or a mode is entered.
-#[derive(Clone, Copy)]
+#[derive(Clone, Copy, PartialEq, Eq, Debug)]
 pub enum Effect {
     Goes(u32),
     Starts(u32),
@@ -38,53 +39,28 @@ fn compared(row: Row, a: u32) -> u32
     a % row.compared
 }
 
-// Whether a write is a byte at U1.
-fn at_u1(row: Row, a: u32, x: u16, byte: u32) -> bool
-    ensures { result ≡ is_wanted row a x (AtU1 byte) }
+// Whether a write is a byte at an unlock address.
+fn is_at(row: Row, unlock: u32, a: u32, x: u16, byte: u32) -> bool
+    ensures { result ≡ pick (a % row.compared == unlock) (x % 256 == byte) false }
 {
-    if compared(row, a) == row.u1 {
-        return x as u32 % 256 == byte;
-    }
-    false
-}
-
-// Whether a write is a byte at U2.
-fn at_u2(row: Row, a: u32, x: u16, byte: u32) -> bool
-    ensures { result ≡ is_wanted row a x (AtU2 byte) }
-{
-    if compared(row, a) == row.u2 {
-        return x as u32 % 256 == byte;
-    }
-    false
-}
-
-// On to a stage, or broken.
-fn on(met: bool, stage: u32) -> Effect
-    ensures { result ≡ pick met (Effect.Goes stage) broken }
-{
-    if met {
-        return Effect::Goes(stage);
-    }
-    BROKEN
+    compared(row, a) == unlock && x as u32 % 256 == byte
 }
 
 // The third write, after 55H.
+#[tactic(auto, unfolding(crate::specs::Commands::effect_of))]
 fn third_write(row: Row, a: u32, x: u16) -> Effect
     ensures { result ≡ effect_of row FIRST-55H a x }
 {
-    if at_u1(row, a, x, 0xa0) {
-        return Effect::Goes(ARMED);
+    if compared(row, a) != row.u1 {
+        return BROKEN;
     }
-    if at_u1(row, a, x, 0x80) {
-        return Effect::Goes(GONE_ON);
+    match x as u32 % 256 {
+        0xa0 => Effect::Goes(ARMED),
+        0x80 => Effect::Goes(GONE_ON),
+        0x90 => Effect::Enters(Mode::Identification),
+        0xf0 => Effect::Enters(Mode::ReadMode),
+        _ => BROKEN,
     }
-    if at_u1(row, a, x, 0x90) {
-        return Effect::Enters(Mode::Identification);
-    }
-    if at_u1(row, a, x, 0xf0) {
-        return Effect::Enters(Mode::ReadMode);
-    }
-    BROKEN
 }
 
 // The block code: a block erase where the part has blocks.
@@ -98,6 +74,7 @@ fn block_erase(row: Row) -> Effect
 }
 
 // The last write of an erase, after the second 55H.
+#[tactic(auto, unfolding(crate::specs::Commands::effect_of))]
 fn last_write(row: Row, a: u32, x: u16) -> Effect
     ensures { result ≡ effect_of row SECOND-55H a x }
 {
@@ -108,23 +85,24 @@ fn last_write(row: Row, a: u32, x: u16) -> Effect
     if byte == row.block_code {
         return block_erase(row);
     }
-    if at_u1(row, a, x, 0x10) {
+    if is_at(row, row.u1, a, x, 0x10) {
         return Effect::Starts(CHIP);
     }
     BROKEN
 }
 
 // What follows from a write at a stage of the sequence.
+#[tactic(auto, unfolding(crate::specs::Commands::effect_of))]
 pub fn effect_of(row: Row, stage: u32, a: u32, x: u16) -> Effect
     ensures { result ≡ effect_of row stage a x }
 {
     match stage {
-        NONE_BEGUN => on(at_u1(row, a, x, 0xaa), FIRST_AAH),
-        FIRST_AAH => on(at_u2(row, a, x, 0x55), FIRST_55H),
+        NONE_BEGUN if is_at(row, row.u1, a, x, 0xaa) => Effect::Goes(FIRST_AAH),
+        FIRST_AAH if is_at(row, row.u2, a, x, 0x55) => Effect::Goes(FIRST_55H),
         FIRST_55H => third_write(row, a, x),
         ARMED => Effect::Starts(PROGRAM),
-        GONE_ON => on(at_u1(row, a, x, 0xaa), SECOND_AAH),
-        SECOND_AAH => on(at_u2(row, a, x, 0x55), SECOND_55H),
+        GONE_ON if is_at(row, row.u1, a, x, 0xaa) => Effect::Goes(SECOND_AAH),
+        SECOND_AAH if is_at(row, row.u2, a, x, 0x55) => Effect::Goes(SECOND_55H),
         SECOND_55H => last_write(row, a, x),
         _ => BROKEN,
     }

@@ -1,6 +1,5 @@
 -- The bits of a busy read are bits, and so is bit 2 of a suspended range.
-use Prim.Native.Nat.{ℕ, ◌+◌, ◌-◌, ◌*◌, ◌/◌, ◌%◌, ◌≤◌}
-use mathlib.Core.Path.{◌≡◌}
+use Prim.Native.Nat.{ℕ, ◌-◌, ◌/◌, ◌%◌, ◌≤◌}
 use mathlib.Core.Bool.{Bool}
 use native.Mathlib.Omega.{arith}
 use lib.Dec.{eqb}
@@ -18,7 +17,3 @@ bit6-le o = split (λ (n : ℕ). n ≤ 1) o.toggle 1 0 (λ _. omega arith) (λ _
 
 pub bit2-le : (k : Core) (t : Bool) → bit2 k t ≤ 1
 bit2-le k t = split (λ (n : ℕ). n ≤ 1) t (pick k.turned 0 1) 0 (λ _. split (λ (n : ℕ). n ≤ 1) k.turned 0 1 (λ _. omega arith) (λ _. omega arith)) (λ _. omega arith)
-
--- bit 2 at 0 adds nothing
-pub no-bit2 : (n : ℕ) → n + 0 * 4 ≡ n
-no-bit2 n = omega arith

@@ -2,7 +2,7 @@
 use crate::{Core, Device};
 
 // What a cycle does: read an address, write an address with data, nothing, or a power cut with a scar.
-#[derive(Clone, Copy)]
+#[derive(Clone, Copy, PartialEq, Eq, Debug)]
 pub enum Action {
     Read(u32),
     Write(u32, u16),
@@ -11,7 +11,7 @@ pub enum Action {
 }
 
 // A cycle: the µs since the last one, the WP# level (true is high), and what it does.
-#[derive(Clone, Copy)]
+#[derive(Clone, Copy, PartialEq, Eq, Debug)]
 pub struct Cycle {
     pub elapsed: u32,
     pub wp: bool,
@@ -19,7 +19,7 @@ pub struct Cycle {
 }
 
 // The answer, 0 or a refusal; the value read; the device afterwards.
-#[derive(Clone, Copy)]
+#[derive(Clone, Copy, PartialEq, Eq, Debug)]
 pub struct Reply {
     pub answer: u32,
     pub value: u16,
@@ -27,7 +27,7 @@ pub struct Reply {
 }
 
 // What a read shows, and the core after it.
-#[derive(Clone, Copy)]
+#[derive(Clone, Copy, PartialEq, Eq, Debug)]
 pub struct Shown {
     pub value: u16,
     pub core: Core,

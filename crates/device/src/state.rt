@@ -4,12 +4,11 @@ ghost use Rattle.std.specs.Prelude.{◌≡◌};
 ghost use Rattle.device.specs.Device.{fresh_device, no_operation};
 
 use commands::Mode;
-use parts::names::NONE_BEGUN;
 
 // An operation: its command's number, address and data, the µs left, and what bit 6 shows at the
 // next busy read. It is pending exactly while time is left. The order of its fields is that in which a
 // job took the fewest instructions (docs/MEASURED.md).
-#[derive(Clone, Copy)]
+#[derive(Clone, Copy, PartialEq, Eq, Debug, Default)]
 pub struct Operation {
     pub kind: u32,
     pub left: u32,
@@ -21,7 +20,7 @@ pub struct Operation {
 // All of a device but its write sequence: time, reads and cuts use nothing else. A recent completion is one 0 µs old; it
 // stands beside the mode, since behind what runs it made a job slower (docs/DECISIONS.md, W5). Bit 2 has turned where the
 // next read that shows it shows 0.
-#[derive(Clone, Copy)]
+#[derive(Clone, Copy, PartialEq, Eq, Debug, Default)]
 pub struct Core {
     pub mode: Mode,
     pub recent: bool,
@@ -31,7 +30,7 @@ pub struct Core {
 }
 
 // The stage is one of the seven of a write sequence (parts::names).
-#[derive(Clone, Copy)]
+#[derive(Clone, Copy, PartialEq, Eq, Debug, Default)]
 pub struct Device {
     pub core: Core,
     pub stage: u32,
@@ -41,29 +40,12 @@ pub struct Device {
 pub fn no_operation() -> Operation
     ensures { result ≡ no_operation }
 {
-    Operation {
-        kind: 0,
-        address: 0,
-        data: 0,
-        left: 0,
-        toggle: false,
-    }
+    Operation::default()
 }
 
 // A fresh device: read mode, no sequence, idle.
 pub fn fresh() -> Device
     ensures { result ≡ fresh_device }
 {
-    let mode = Mode::ReadMode;
-    let core = Core {
-        mode,
-        recent: false,
-        turned: false,
-        running: no_operation(),
-        suspended: no_operation(),
-    };
-    Device {
-        core,
-        stage: NONE_BEGUN,
-    }
+    Device::default()
 }
