@@ -1,6 +1,8 @@
 // One bus cycle: refusals in order; then time passes; then the cycle acts.
-ghost use Rattle.std.specs.Prelude.{◌≡◌, ◌+◌, ◌<◌, ◌≤◌, length, true};
-ghost use Rattle.device.specs.Cycle.{acted_of, action_refusal, bit2, bit6, bit7, chip, cut_of, cut_short, cycle_of, cycle_refusal_on, identity, inverted, mode_shows, outputs_of, read_of, reply, settled_of, showing, shown_of, status, tells, turned_by, veil, veils};
+ghost use Rattle.std.specs.Prelude.{◌≡◌, ◌+◌, ◌<◌, ◌≤◌, IfOk, length, true};
+ghost use Rattle.parts.specs.Refused.{answer_of};
+ghost use Rattle.parts.specs.Table.{row_of};
+ghost use Rattle.device.specs.Cycle.{acted_of, action_refusal, bit2, bit6, bit7, chip, cut_of, cut_short, cycle_of, cycle_refusal, identity, inverted, mode_shows, outputs_of, read_of, reply, settled_of, showing, shown_of, status, tells, turned_by, veil, veils};
 ghost use Rattle.device.specs.Device.{pending, toggled, with_running};
 ghost use Rattle.device.specs.Operation.{cells_of};
 ghost use Rattle.device.specs.Sequence.{written_of};
@@ -11,66 +13,54 @@ use crate::sequence::{suspends, written};
 use crate::state::{aged_by, in_range, is_busy, is_held, is_pending, suspend, with_core};
 use commands::Mode;
 use device::{Action, Core, Cycle, Device, Operation, Reply, Shown, no_operation};
-use parts::names::{
-    BAD_STATE, BIT_2, BIT_6, BIT_7, BLOCK, NO_ADDRESS, NONE_BEGUN, PROGRAM, SECTOR, WIDE_DATA,
-    WRONG_CELLS,
-};
-use parts::{Found, Row};
+use parts::names::{BIT_2, BIT_6, BIT_7, BLOCK, NONE_BEGUN, PROGRAM, SECTOR};
+use parts::{Refusal, Row};
 
-// The refusal of an address and data to write.
-#[tactic(auto, unfolding(device::specs::Cycle::action_refusal))]
-fn write_refusal(row: Row, a: u32, x: u16) -> u32
-    ensures { result ≡ action_refusal row (Action.Write a x) }
+// The refusal of an address: 3.
+#[tactic(auto, unfolding(device::specs::Cycle::action_refusal), using(parts::proofs::Rules::tests))]
+fn check_address(row: Row, a: u32) -> Result<(), Refusal>
+    ensures { answer_of result ≡ action_refusal row (Action.Read a) }
 {
     if row.cells <= a {
-        return NO_ADDRESS;
+        return Err(Refusal::NoAddress);
     }
-    if !parts::fits(row.width, x) {
-        return WIDE_DATA;
-    }
-    0
+    Ok(())
 }
 
-// The refusal of an address to read.
-#[tactic(auto, unfolding(device::specs::Cycle::action_refusal))]
-fn read_refusal(row: Row, a: u32) -> u32
-    ensures { result ≡ action_refusal row (Action.Read a) }
-{
-    if row.cells <= a {
-        return NO_ADDRESS;
-    }
-    0
-}
-
-// The refusal of what a cycle does.
-#[tactic(auto, unfolding(device::specs::Cycle::action_refusal))]
-fn action_refusal(row: Row, action: Action) -> u32
-    ensures { result ≡ action_refusal row action }
+// The refusal of what a cycle does: 3 of a read or a write, then 4 of a write.
+#[tactic(auto, unfolding(device::specs::Cycle::action_refusal), using(parts::proofs::Told::refused))]
+fn check_action(row: Row, action: Action) -> Result<(), Refusal>
+    ensures { answer_of result ≡ action_refusal row action }
 {
     match action {
-        Action::Read(a) => read_refusal(row, a),
-        Action::Write(a, x) => write_refusal(row, a, x),
-        Action::Idle => 0,
-        Action::Cut(_) => 0,
+        Action::Read(a) => check_address(row, a),
+        Action::Write(a, x) => {
+            check_address(row, a)?;
+            if !parts::fits(row.width, x) {
+                return Err(Refusal::WideData);
+            }
+            Ok(())
+        }
+        Action::Idle => Ok(()),
+        Action::Cut(_) => Ok(()),
     }
 }
 
-// The refusal of a cycle: 1, 2, 5, then 3 and 4.
-fn cycle_refusal(found: Found, lent: usize, d: Device, action: Action) -> u32
-    ensures { result ≡ cycle_refusal_on found lent d action }
+// The row of a cycle's part, or the cycle's refusal: 1, 2, 5, then 3 and 4.
+#[tactic(auto, unfolding(device::specs::Cycle::cycle_refusal), using(parts::proofs::Told::refused, parts::proofs::Rules::tests))]
+fn check_cycle(part: u32, lent: usize, d: Device, action: Action) -> Result<Row, Refusal>
+    ensures answer { answer_of result ≡ cycle_refusal part lent d action }
+    ensures row { IfOk result (λ r. r ≡ row_of part) }
 {
-    let answer = found.answer;
-    if 0 < answer {
-        return answer;
-    }
-    let row = found.row;
+    let row = table::part_row(part)?;
     if lent != row.cells as usize {
-        return WRONG_CELLS;
+        return Err(Refusal::WrongCells);
     }
     if !in_range(row, d) {
-        return BAD_STATE;
+        return Err(Refusal::BadState);
     }
-    action_refusal(row, action)
+    check_action(row, action)?;
+    Ok(row)
 }
 
 // Time passes.
@@ -355,21 +345,20 @@ fn act(cells: &mut [u16], row: Row, d: Device, wp: bool, action: Action) -> Repl
     }
 }
 
-// One bus cycle on the lent cells of a part: what it answers and shows, and the device afterwards.
+// One bus cycle on the lent cells of a part: what it answers and shows, and the device afterwards. A refused one hands the device back.
+// kept: what may not change: what a refused cycle hands back beside its number, which its clause and demands' `bus-cycle-refuses` speak of
 pub fn bus_cycle(part: u32, cells: &mut [u16], device: Device, cycle: Cycle) -> Reply
     ensures { (result ≡ (cycle_of part cells.old device cycle).reply) × (cells.new ≡ (cycle_of part cells.old device cycle).cells) }
 {
-    let found = table::part_row(part);
-    let action = cycle.action;
-    let answer = cycle_refusal(found, cells.len(), device, action);
-    if 0 < answer {
-        return Reply {
-            answer,
+    match check_cycle(part, cells.len(), device, cycle.action) {
+        Ok(row) => {
+            let core = settle(&mut *cells, row, device.core, cycle.elapsed);
+            act(cells, row, with_core(device, core), cycle.wp, cycle.action)
+        }
+        Err(refusal) => Reply {
+            answer: refusal.number(),
             value: 0,
             device,
-        };
+        },
     }
-    let row = found.row;
-    let core = settle(&mut *cells, row, device.core, cycle.elapsed);
-    act(&mut *cells, row, with_core(device, core), cycle.wp, action)
 }

@@ -6,9 +6,11 @@ use mathlib.Core.List.{List}
 use native.Mathlib.Omega.{arith}
 use lib.Dec.{eqb, ltb}
 use lib.ListN.{length}
-use Rattle.parts.specs.Table.{row_of, found_of}
+use Rattle.parts.specs.Table.{row_of}
 use Rattle.parts.specs.declared.table.Row.{Row}
-use Rattle.parts.specs.Table.{Found}
+use Rattle.parts.specs.Refused.{number_of}
+use Rattle.parts.specs.declared.refusal.Refusal.{Refusal}
+use Rattle.parts.proofs.Told.{number_of-positive}
 use Rattle.parts.proofs.Every.{split}
 use Rattle.device.specs.declared.state.Operation.{Operation}
 use Rattle.device.specs.declared.state.Core.{Core}
@@ -17,7 +19,7 @@ use Rattle.device.specs.declared.cycle.Cycle.{Cycle}
 use Rattle.device.specs.declared.cycle.Reply.{Reply}
 use Rattle.device.specs.Device.{operation, pending, with_left, with_turned, with_running, at_rest, aged_by, busy, device, with_core, core_in_range, stage_in_range, device_in_range}
 use Rattle.device.specs.Operation.{cells_of, complete_on, cut_on, finished, scarred}
-use Rattle.device.specs.Cycle.{Chip, chip, reply, Settled, settled_of, after_time, cut_short, action_refusal, cycle_refusal_on, cycle_refusal, acted_of, accepted_of, cycle_of}
+use Rattle.device.specs.Cycle.{Chip, chip, reply, Settled, settled_of, after_time, cut_short, action_refusal, cycle_refusal, acted_of, accepted_of, cycle_of}
 use Rattle.device.specs.Needs.{InWords, RunsInside}
 use Rattle.device.proofs.Over.{over-length}
 use Rattle.device.proofs.Cases.{refused-cycle}
@@ -86,45 +88,33 @@ after-time-range r h e i =
     Begun : Settled → Type 0
     Begun s = device_in_range r (device s.core 0) ≡ true
 
--- ---- a cycle in the steps of its function: the part found is f, its refusal n is none, time leaves cells' and the core k', which the device d' has
-module _ (part : ℕ) (f : Found) (cells cells' : List ℕ) (d d' : Device) (k' : Core) (c : Cycle) (n : ℕ)
-    (found : f ≡ found_of part) (asked : n ≡ cycle_refusal_on f (length cells) d c.action) (none : n ≤ 0) where
-  zero : cycle_refusal part (length cells) d c.action ≡ 0
-  unfolding cycle_refusal
-  zero = let e : n ≡ 0 = omega arith in rw found at (sym asked ∙ e)
-
-  row : f.row ≡ row_of part
-  row = ap (λ (f : Found). f.row) found
-
-  pub ready-settle : InWords f.row × RunsInside f.row d.core (length cells)
+-- ---- a cycle in the steps of its function: it is not refused, r is its part's row, time leaves cells' and the core k', which the device d' has
+module _ (part : ℕ) (r : Row) (cells cells' : List ℕ) (d d' : Device) (k' : Core) (c : Cycle)
+    (row : r ≡ row_of part) (zero : cycle_refusal part (length cells) d c.action ≡ 0) where
+  pub ready-settle : InWords r × RunsInside r d.core (length cells)
   ready-settle =
       let w = accepted part (length cells) d c.action zero in
       rw row (in_words part w.known, runs-inside part w.known d.core (length cells) (ranges (row_of part) d w.state).1 w.whole)
 
-  module _ (left : cells' ≡ (settled_of f.row cells d.core c.elapsed).cells) (core : k' ≡ (settled_of f.row cells d.core c.elapsed).core) (device : d' ≡ with_core d k') where
-    reached : chip cells' d' ≡ after_time f.row (chip cells d) c.elapsed
+  module _ (left : cells' ≡ (settled_of r cells d.core c.elapsed).cells) (core : k' ≡ (settled_of r cells d.core c.elapsed).core) (device : d' ≡ with_core d k') where
+    reached : chip cells' d' ≡ after_time r (chip cells d) c.elapsed
     reached = ap₂ {A = List ℕ} {B = Device} {C = Chip} chip left (device ∙ ap (with_core d) core)
 
-    pub ready-act : InWords f.row × (RunsInside f.row d'.core (length cells') × ((f.row.cells ≡ length cells') × (action_refusal f.row c.action ≡ 0)))
+    pub ready-act : InWords r × (RunsInside r d'.core (length cells') × ((r.cells ≡ length cells') × (action_refusal r c.action ≡ 0)))
     ready-act =
         let w = accepted part (length cells) d c.action zero in
-        let whole : length cells' ≡ (row_of part).cells = ap length left ∙ (settled-length f.row cells d.core c.elapsed ∙ w.whole) in
+        let whole : length cells' ≡ (row_of part).cells = ap length left ∙ (settled-length r cells d.core c.elapsed ∙ w.whole) in
         let state : device_in_range (row_of part) d' ≡ true = rw (ap (λ (h : Chip). h.device) reached, row) (after-time-range (row_of part) (chip cells d) c.elapsed w.state) in
         (ready-settle.0, (rw row (runs-inside part w.known d'.core (length cells') (ranges (row_of part) d' state).1 whole), (rw row (sym whole), rw row w.reach)))
 
-    pub whole-cycle : (x : Reply) (y : List ℕ) → x ≡ (acted_of f.row (chip cells' d') c.wp c.action).reply → y ≡ (acted_of f.row (chip cells' d') c.wp c.action).cells
+    pub whole-cycle : (x : Reply) (y : List ℕ) → x ≡ (acted_of r (chip cells' d') c.wp c.action).reply → y ≡ (acted_of r (chip cells' d') c.wp c.action).cells
         → (x ≡ (cycle_of part cells d c).reply) × (y ≡ (cycle_of part cells d c).cells)
     unfolding cycle_of accepted_of
     whole-cycle x y p q = rw zero (rw (reached, row) at p, rw (reached, row) at q)
 
 -- a cycle that is refused
-pub refused-whole : (part : ℕ) (f : Found) (cells : List ℕ) (d : Device) (c : Cycle) (n : ℕ) → f ≡ found_of part → n ≡ cycle_refusal_on f (length cells) d c.action → 0 < n
-    → (reply n 0 d ≡ (cycle_of part cells d c).reply) × (cells ≡ (cycle_of part cells d c).cells)
-unfolding cycle_refusal
-refused-whole part f cells d c n found asked some =
-    let e : n ≡ cycle_refusal part (length cells) d c.action = rw found at asked in
-    let o = refused-cycle part cells d c (λ z. none (e ∙ z)) in
-    rw (o, ← e) (refl, refl)
-  where
-    none : n ≡ 0 → ⊥
-    none z = omega arith
+pub refused-whole : (part : ℕ) (cells : List ℕ) (d : Device) (c : Cycle) (e : Refusal) → number_of e ≡ cycle_refusal part (length cells) d c.action
+    → (reply (number_of e) 0 d ≡ (cycle_of part cells d c).reply) × (cells ≡ (cycle_of part cells d c).cells)
+refused-whole part cells d c e asked =
+    let o = refused-cycle part cells d c (λ z. number_of-positive e (asked ∙ z)) in
+    rw (o, ← asked) (refl, refl)
