@@ -1,5 +1,6 @@
 -- The bus cycle as plain numbers: those of a device and of a reply, and the device of any numbers.
 use Rattle.std.specs.Prelude.{ℕ, Bool, false, List, eqb, leb, ltb}
+use Rattle.std.specs.Int.{from_bool}
 use Rattle.parts.specs.Pick.{pick, ◌when◌, ◌unless◌, ◌else◌}
 use Rattle.commands.specs.declared.effect.Mode.{Mode}
 use Rattle.commands.specs.declared.effect.Mode.TheVariants.{ReadMode, Identification}
@@ -38,7 +39,7 @@ mode_at n = pick (eqb n READ-MODE) ReadMode Identification
 -- ---- the device
 -- what a bit shows, a level, whether a completion is recent, or whether bit 2 has turned
 abbrev pub bit_number : Bool → ℕ
-bit_number t = pick t 1 0
+bit_number t = from_bool t
 
 -- the numbers of an operation
 abbrev pub operation_numbers : Operation → OperationNumbers

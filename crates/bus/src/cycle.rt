@@ -1,6 +1,6 @@
 // The bus cycle on a device as plain numbers. Any numbers may be given.
 ghost use Rattle.std.specs.Prelude.{◌≡◌};
-ghost use Rattle.bus.specs.Cycle.{bit_number, cycled_of, device_numbers, device_of, has_bits, mode_at, mode_number, no_state, operation_numbers, operation_of, reply_numbers};
+ghost use Rattle.bus.specs.Cycle.{cycled_of, device_numbers, device_of, has_bits, mode_at, mode_number, no_state, operation_numbers, operation_of, reply_numbers};
 
 use commands::Mode;
 use device::{Action, Core, Cycle, Device, Operation, Reply};
@@ -46,6 +46,7 @@ pub struct ReplyNumbers {
     pub device: DeviceNumbers,
 }
 
+// kept: what may not change: which crate owns Mode, where alone a conversion between it and u32 may be an impl
 // The number of a mode.
 fn mode_number(mode: Mode) -> u32
     ensures { result ≡ mode_number mode }
@@ -60,134 +61,118 @@ fn mode_number(mode: Mode) -> u32
 fn mode_at(n: u32) -> Mode
     ensures { result ≡ mode_at n }
 {
-    if n == READ_MODE {
-        return Mode::ReadMode;
+    match n {
+        READ_MODE => Mode::ReadMode,
+        _ => Mode::Identification,
     }
-    Mode::Identification
-}
-
-// The number of what a bit shows, of a level, of whether a completion is recent, or of whether bit 2 has turned.
-fn bit_number(bit: bool) -> u32
-    ensures { result ≡ bit_number bit }
-{
-    if bit {
-        return 1;
-    }
-    0
 }
 
 // A device out of range for every part.
 fn no_state() -> Device
     ensures { result ≡ no_state }
 {
-    let fresh = device::fresh();
-    let core = fresh.core;
     Device {
-        core,
         stage: NO_STAGE,
+        ..device::fresh()
     }
 }
 
 // The numbers of an operation.
-fn operation_numbers(o: Operation) -> OperationNumbers
-    ensures { result ≡ operation_numbers o }
-{
-    OperationNumbers {
-        kind: o.kind,
-        address: o.address,
-        data: o.data,
-        left: o.left,
-        toggle: bit_number(o.toggle),
+impl From<Operation> for OperationNumbers {
+    ghost from_gives = { λ o n. n ≡ operation_numbers o };
+
+    fn from(o: Operation) -> OperationNumbers {
+        OperationNumbers {
+            kind: o.kind,
+            address: o.address,
+            data: o.data,
+            left: o.left,
+            toggle: u32::from(o.toggle),
+        }
     }
 }
 
 // The numbers of a device.
-fn device_numbers(d: Device) -> DeviceNumbers
-    ensures { result ≡ device_numbers d }
-{
-    let core = d.core;
-    let mode = core.mode;
-    DeviceNumbers {
-        mode: mode_number(mode),
-        stage: d.stage,
-        recent: bit_number(core.recent),
-        turned: bit_number(core.turned),
-        running: operation_numbers(core.running),
-        suspended: operation_numbers(core.suspended),
+impl From<Device> for DeviceNumbers {
+    ghost from_gives = { λ d n. n ≡ device_numbers d };
+
+    fn from(d: Device) -> DeviceNumbers {
+        let core = d.core;
+        DeviceNumbers {
+            mode: mode_number(core.mode),
+            stage: d.stage,
+            recent: u32::from(core.recent),
+            turned: u32::from(core.turned),
+            running: OperationNumbers::from(core.running),
+            suspended: OperationNumbers::from(core.suspended),
+        }
     }
 }
 
 // The operation of some numbers.
-fn operation_of(n: OperationNumbers) -> Operation
-    ensures { result ≡ operation_of n }
-{
-    Operation {
-        kind: n.kind,
-        address: n.address,
-        left: n.left,
-        data: n.data,
-        toggle: n.toggle == 1,
+impl From<OperationNumbers> for Operation {
+    ghost from_gives = { λ n o. o ≡ operation_of n };
+
+    fn from(n: OperationNumbers) -> Operation {
+        Operation {
+            kind: n.kind,
+            address: n.address,
+            left: n.left,
+            data: n.data,
+            toggle: n.toggle == 1,
+        }
     }
 }
 
 // Whether the numbers are those of a mode and of bits.
+#[tactic(auto, unfolding(crate::specs::Cycle::has_bits))]
 fn has_bits(n: DeviceNumbers) -> bool
     ensures { result ≡ has_bits n }
 {
-    let running = n.running;
-    let suspended = n.suspended;
-    if IDENTIFICATION < n.mode {
-        return false;
-    }
-    if 1 < n.recent {
-        return false;
-    }
-    if 1 < n.turned {
-        return false;
-    }
-    if 1 < running.toggle {
-        return false;
-    }
-    suspended.toggle <= 1
+    n.mode <= IDENTIFICATION
+        && n.recent <= 1
+        && n.turned <= 1
+        && n.running.toggle <= 1
+        && n.suspended.toggle <= 1
 }
 
-// The device of some numbers.
-fn device_of(n: DeviceNumbers) -> Device
-    ensures { result ≡ device_of n }
-{
-    if !has_bits(n) {
-        return no_state();
-    }
-    let core = Core {
-        mode: mode_at(n.mode),
-        recent: n.recent == 1,
-        turned: n.turned == 1,
-        running: operation_of(n.running),
-        suspended: operation_of(n.suspended),
-    };
-    Device {
-        core,
-        stage: n.stage,
+// The device of some numbers: other numbers are no state.
+impl From<DeviceNumbers> for Device {
+    ghost from_gives = { λ n d. d ≡ device_of n };
+
+    #[tactic(auto, unfolding(crate::specs::Cycle::device_of))]
+    fn from(n: DeviceNumbers) -> Device {
+        if !has_bits(n) {
+            return no_state();
+        }
+        let core = Core {
+            mode: mode_at(n.mode),
+            recent: n.recent == 1,
+            turned: n.turned == 1,
+            running: Operation::from(n.running),
+            suspended: Operation::from(n.suspended),
+        };
+        Device {
+            core,
+            stage: n.stage,
+        }
     }
 }
 
 // The numbers of a reply: a refused cycle hands back the numbers as they came.
+#[tactic(auto, unfolding(crate::specs::Cycle::reply_numbers))]
 fn reply_numbers(given: DeviceNumbers, r: Reply) -> ReplyNumbers
     ensures { result ≡ reply_numbers given r }
 {
-    let answer = r.answer;
-    let d = r.device;
-    if 0 < answer {
-        return ReplyNumbers {
-            answer,
-            value: r.value,
-            device: given,
-        };
-    }
+    let device = if 0 < r.answer {
+        given
+    } else {
+        DeviceNumbers::from(r.device)
+    };
     ReplyNumbers {
-        answer: 0,
+        answer: r.answer,
         value: r.value,
-        device: device_numbers(d),
+        device,
     }
 }
 
@@ -202,11 +187,13 @@ pub fn cycled(
 ) -> ReplyNumbers
     ensures { (result ≡ (cycled_of part cells.old device elapsed wp action).reply) × (cells.new ≡ (cycled_of part cells.old device elapsed wp action).cells) }
 {
-    let d = device_of(device);
     let cycle = Cycle {
         elapsed,
         wp: 0 < wp,
         action,
     };
-    reply_numbers(device, chip::bus_cycle(part, cells, d, cycle))
+    reply_numbers(
+        device,
+        chip::bus_cycle(part, cells, Device::from(device), cycle),
+    )
 }

@@ -2,20 +2,9 @@
 // sent and the sum of what they answered and showed. How long it takes is measured from outside.
 #![tactic(auto)]
 
-ghost use Rattle.std.specs.Prelude.{◌≡◌, length};
-
 use device::{Action, Cycle, Device};
+use random::Random;
 use std::io;
-
-// The next of a row of random numbers below 2,147,483,648.
-fn next(x: u64) -> u64 {
-    (x % 2147483648 * 1103515245 + 12345) % 2147483648
-}
-
-// One line: what it is, and the number.
-fn line(rt: &impl Print, label: &str, n: u64) -> io::Result<()> {
-    println!(rt; "{label}{n}")
-}
 
 // The device, how many cycles were sent, and the sum of all that they answered and showed.
 #[derive(Clone, Copy)]
@@ -25,89 +14,61 @@ struct Played {
     sum: u64,
 }
 
-// A write at once.
-fn write(address: u32, data: u16) -> Cycle {
-    let action = Action::Write(address, data);
-    Cycle {
-        elapsed: 0,
+// Sends one cycle so many µs after the last one.
+fn send(cells: &mut [u16], p: Played, elapsed: u32, action: Action) -> Played {
+    let cycle = Cycle {
+        elapsed,
         wp: true,
         action,
-    }
-}
-
-// A read 10 µs later.
-fn read(address: u32) -> Cycle {
-    let action = Action::Read(address);
-    Cycle {
-        elapsed: 10,
-        wp: true,
-        action,
-    }
-}
-
-// The k-th of a word's eight cycles: its four writes, then four reads.
-fn cycle_of(k: u32, address: u32, data: u16) -> Cycle {
-    match k {
-        0 => write(0x5555, 0xaa),
-        1 => write(0x2aaa, 0x55),
-        2 => write(0x5555, 0xa0),
-        3 => write(address, data),
-        _ => read(address),
-    }
-}
-
-// Sends one cycle.
-fn send(cells: &mut [u16], p: Played, cycle: Cycle) -> Played {
-    let device = p.device;
-    let r = chip::bus_cycle(8, cells, device, cycle);
-    let next = r.device;
+    };
+    let r = chip::bus_cycle(8, cells, p.device, cycle);
     let shown = r.answer as u64 + r.value as u64;
     Played {
-        device: next,
-        sent: std::num::wrapping_add_u64(p.sent, 1),
-        sum: std::num::wrapping_add_u64(p.sum, shown),
+        device: r.device,
+        sent: p.sent.wrapping_add(1),
+        sum: p.sum.wrapping_add(shown),
+    }
+}
+
+// The k-th of a word's eight cycles, and the µs before it: four writes that program it, then four reads.
+fn cycle_of(k: u32, address: u32, data: u16) -> (u32, Action) {
+    match k {
+        0 => (0, Action::Write(0x5555, 0xaa)),
+        1 => (0, Action::Write(0x2aaa, 0x55)),
+        2 => (0, Action::Write(0x5555, 0xa0)),
+        3 => (0, Action::Write(address, data)),
+        _ => (10, Action::Read(address)),
     }
 }
 
 // Programs one word and reads it.
 fn program(cells: &mut [u16], p: Played, address: u32, data: u16) -> Played {
     let mut played = p;
-    let mut k = 0;
-    while k < 8 {
-        played = send(&mut *cells, played, cycle_of(k, address, data));
-        k += 1;
+    // kept: tried: slower by a tenth over an array of the eight, and by four fifths with the sends written out
+    for k in 0..8 {
+        let (elapsed, action) = cycle_of(k, address, data);
+        played = send(cells, played, elapsed, action);
     }
     played
 }
 
 // Programs a random word at each address of part 8.
-fn play(cells: &mut [u16]) -> Played {
-    let device = device::fresh();
+fn play(cells: &mut [u16; 1048576]) -> Played {
     let mut played = Played {
-        device,
+        device: device::fresh(),
         sent: 0,
         sum: 0,
     };
-    let mut x = 2;
-    let mut i: u32 = 0;
-    while i < 1048576 {
-        x = next(x);
-        played = program(&mut *cells, played, i, (x / 4096 % 65536) as u16);
-        i += 1;
+    let mut random = Random { state: 2 };
+    for address in 0..1048576 {
+        played = program(cells, played, address, random.word());
     }
     played
 }
 
-// The cells of part 8, blank. The promise is what lending them needs.
-fn part_8() -> [u16; 1048576]
-    ensures { 1048576 ≡ length result }
-{
-    [0xffff; 1048576]
-}
-
 fn main(rt: HostRuntime) -> io::Result<()> {
-    let mut cells = part_8();
+    let mut cells = [0xffff; 1048576];
     let played = play(&mut cells);
-    line(&rt, "cycles ", played.sent)?;
-    line(&rt, "sum ", played.sum)
+    println!(rt; "cycles {}", played.sent)?;
+    println!(rt; "sum {}", played.sum)
 }

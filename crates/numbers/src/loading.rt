@@ -1,12 +1,9 @@
 // The loader for a real socket as plain numbers: its job, its begin and its turn. Any numbers may be given.
 ghost use Rattle.std.specs.Prelude.{◌≡◌};
-ghost use Rattle.bus.specs.Cycle.{bit_number};
-ghost use Rattle.numbers.specs.Loading.{begin_numbers, loading_at, loading_numbers, loading_of, no_driver_numbers, no_turn, progress_at, sending_level, sending_numbers, stage_at, stage_numbers, task_at, task_number, told_turn, turn_numbers, turned_of};
+ghost use Rattle.numbers.specs.Loading.{begin_numbers, loading_numbers, loading_of, no_turn, progress_at, sending_level, sending_numbers, stage_at, task_at, task_number, told_turn, turn_numbers, turned_of};
 
-use crate::machine::{
-    CycleNumbers, DriverNumbers, ENDED_DIFFERS, NOTHING_TO_SEND, driver_numbers, driver_of,
-    sent_numbers,
-};
+use crate::machine::{CycleNumbers, DriverNumbers, ENDED_DIFFERS, NOTHING_TO_SEND, sent_numbers};
+use driver::Driver;
 use job::{Begun, LoadTurn, Loader, Loading, Progress, Sending, Stage, Task};
 use parts::names::{BAD_STATE, DIFFERS, GAVE_UP};
 
@@ -59,6 +56,18 @@ pub struct TurnNumbers {
     pub wp: u32,
 }
 
+// No driver.
+const NO_DRIVER: DriverNumbers = DriverNumbers {
+    part: 0,
+    command: 0,
+    address: 0,
+    data: 0,
+    p: 0,
+    phase: 0,
+    count: 0,
+};
+
+// kept: what may not change: which crate owns Task, where alone a conversion between it and u32 may be an impl
 // The number of what is driven.
 fn task_number(task: Task) -> u32
     ensures { result ≡ task_number task }
@@ -71,137 +80,107 @@ fn task_number(task: Task) -> u32
 }
 
 // What is driven, of a number: a burn for any but the first two.
+#[tactic(auto, unfolding(crate::specs::Loading::task_at))]
 fn task_at(n: u32) -> Task
     ensures { result ≡ task_at n }
 {
-    if n == ERASING {
-        return Task::Erasing;
-    }
-    if n == FILLING {
-        return Task::Filling;
-    }
-    Task::Burning
-}
-
-// The numbers of no driver.
-fn no_driver_numbers() -> DriverNumbers
-    ensures { result ≡ no_driver_numbers }
-{
-    DriverNumbers {
-        part: 0,
-        command: 0,
-        address: 0,
-        data: 0,
-        p: 0,
-        phase: 0,
-        count: 0,
-    }
-}
-
-// The number of a level.
-fn level_number(high: bool) -> u32
-    ensures { result ≡ bit_number high }
-{
-    if high {
-        return 1;
-    }
-    0
-}
-
-// The numbers of a job that is as far as this.
-fn loading_at(
-    g: Loading,
-    progress: u32,
-    base: u32,
-    at: u32,
-    driver: DriverNumbers,
-    ending: u32,
-) -> LoadingNumbers
-    ensures { result ≡ loading_at g progress base at driver ending }
-{
-    LoadingNumbers {
-        part: g.part,
-        first: g.first,
-        count: g.count,
-        wp: level_number(g.wp),
-        p: g.p,
-        progress,
-        base,
-        at,
-        driver,
-        ending,
-    }
-}
-
-// The numbers of a job in a stage of a sector.
-fn stage_numbers(g: Loading, stage: Stage, base: u32, at: u32) -> LoadingNumbers
-    ensures { result ≡ stage_numbers g stage base at }
-{
-    match stage {
-        Stage::Scanning => loading_at(g, SCANNING, base, at, no_driver_numbers(), 0),
-        Stage::Looking => loading_at(g, LOOKING, base, at, no_driver_numbers(), 0),
-        Stage::Driving(task, d) => loading_at(g, task_number(task), base, at, driver_numbers(d), 0),
+    match n {
+        ERASING => Task::Erasing,
+        FILLING => Task::Filling,
+        _ => Task::Burning,
     }
 }
 
 // The numbers of a job under way.
-fn loading_numbers(g: Loading) -> LoadingNumbers
-    ensures { result ≡ loading_numbers g }
-{
-    let progress = g.progress;
-    match progress {
-        Progress::Waiting => loading_at(g, WAITING, 0, 0, no_driver_numbers(), 0),
-        Progress::Within(loader) => {
-            let stage = loader.stage;
-            stage_numbers(g, stage, loader.base, loader.at)
+impl From<Loading> for LoadingNumbers {
+    ghost from_gives = { λ g n. n ≡ loading_numbers g };
+
+    fn from(g: Loading) -> LoadingNumbers {
+        let waiting = LoadingNumbers {
+            part: g.part,
+            first: g.first,
+            count: g.count,
+            wp: u32::from(g.wp),
+            p: g.p,
+            progress: WAITING,
+            base: 0,
+            at: 0,
+            driver: NO_DRIVER,
+            ending: 0,
+        };
+        match g.progress {
+            Progress::Waiting => waiting,
+            Progress::Within(Loader { stage, base, at }) => match stage {
+                Stage::Scanning => LoadingNumbers {
+                    progress: SCANNING,
+                    base,
+                    at,
+                    ..waiting
+                },
+                Stage::Looking => LoadingNumbers {
+                    progress: LOOKING,
+                    base,
+                    at,
+                    ..waiting
+                },
+                Stage::Driving(task, d) => LoadingNumbers {
+                    progress: task_number(task),
+                    base,
+                    at,
+                    driver: DriverNumbers::from(d),
+                    ..waiting
+                },
+            },
+            Progress::Over(ending) => LoadingNumbers {
+                progress: OVER,
+                ending,
+                ..waiting
+            },
         }
-        Progress::Over(n) => loading_at(g, OVER, 0, 0, no_driver_numbers(), n),
     }
 }
 
 // What is done in a sector, of some numbers.
+#[tactic(auto, unfolding(crate::specs::Loading::stage_at))]
 fn stage_at(progress: u32, driver: DriverNumbers) -> Stage
     ensures { result ≡ stage_at progress driver }
 {
-    if progress == SCANNING {
-        return Stage::Scanning;
+    match progress {
+        SCANNING => Stage::Scanning,
+        LOOKING => Stage::Looking,
+        _ => Stage::Driving(task_at(progress), Driver::from(driver)),
     }
-    if progress == LOOKING {
-        return Stage::Looking;
-    }
-    Stage::Driving(task_at(progress), driver_of(driver))
 }
 
 // How far a job is, of some numbers.
+#[tactic(auto, unfolding(crate::specs::Loading::progress_at))]
 fn progress_at(n: LoadingNumbers) -> Progress
     ensures { result ≡ progress_at n }
 {
-    let progress = n.progress;
-    if progress == WAITING {
-        return Progress::Waiting;
+    match n.progress {
+        WAITING => Progress::Waiting,
+        OVER => Progress::Over(n.ending),
+        progress => Progress::Within(Loader {
+            stage: stage_at(progress, n.driver),
+            base: n.base,
+            at: n.at,
+        }),
     }
-    if progress == OVER {
-        return Progress::Over(n.ending);
-    }
-    let loader = Loader {
-        stage: stage_at(progress, n.driver),
-        base: n.base,
-        at: n.at,
-    };
-    Progress::Within(loader)
 }
 
 // The job under way of some numbers.
-fn loading_of(n: LoadingNumbers) -> Loading
-    ensures { result ≡ loading_of n }
-{
-    Loading {
-        part: n.part,
-        first: n.first,
-        count: n.count,
-        wp: 0 < n.wp,
-        p: n.p,
-        progress: progress_at(n),
+impl From<LoadingNumbers> for Loading {
+    ghost from_gives = { λ n g. g ≡ loading_of n };
+
+    fn from(n: LoadingNumbers) -> Loading {
+        Loading {
+            part: n.part,
+            first: n.first,
+            count: n.count,
+            wp: 0 < n.wp,
+            p: n.p,
+            progress: progress_at(n),
+        }
     }
 }
 
@@ -209,22 +188,20 @@ fn loading_of(n: LoadingNumbers) -> Loading
 pub fn begin_numbers(b: Begun) -> BeginNumbers
     ensures { result ≡ begin_numbers b }
 {
-    let g = b.loading;
     BeginNumbers {
         answer: b.answer,
-        loading: loading_numbers(g),
+        loading: LoadingNumbers::from(b.loading),
     }
 }
 
 // The numbers of what a turn names.
-fn sending_numbers(next: Sending) -> CycleNumbers
-    ensures { result ≡ sending_numbers next }
-{
-    match next {
-        Sending::SendsNothing => NOTHING_TO_SEND,
-        Sending::Sends(_, cycle) => {
-            let action = cycle.action;
-            sent_numbers(cycle.elapsed, action)
+impl From<Sending> for CycleNumbers {
+    ghost from_gives = { λ x n. n ≡ sending_numbers x };
+
+    fn from(next: Sending) -> CycleNumbers {
+        match next {
+            Sending::SendsNothing => NOTHING_TO_SEND,
+            Sending::Sends(_, cycle) => sent_numbers(cycle.elapsed, cycle.action),
         }
     }
 }
@@ -235,7 +212,7 @@ fn sending_level(next: Sending) -> u32
 {
     match next {
         Sending::SendsNothing => 0,
-        Sending::Sends(_, cycle) => level_number(cycle.wp),
+        Sending::Sends(_, cycle) => u32::from(cycle.wp),
     }
 }
 
@@ -243,13 +220,11 @@ fn sending_level(next: Sending) -> u32
 fn told_turn(t: LoadTurn) -> TurnNumbers
     ensures { result ≡ told_turn t }
 {
-    let g = t.loading;
-    let next = t.next;
     TurnNumbers {
         answer: t.answer,
-        loading: loading_numbers(g),
-        cycle: sending_numbers(next),
-        wp: sending_level(next),
+        loading: LoadingNumbers::from(t.loading),
+        cycle: CycleNumbers::from(t.next),
+        wp: sending_level(t.next),
     }
 }
 
@@ -266,20 +241,14 @@ fn no_turn(answer: u32, given: LoadingNumbers) -> TurnNumbers
 }
 
 // The numbers of a turn: one that is neither under way nor at an end is refused.
+#[tactic(auto, unfolding(crate::specs::Loading::turn_numbers, job::specs::Loading::is_ending))]
 fn turn_numbers(given: LoadingNumbers, t: LoadTurn) -> TurnNumbers
     ensures { result ≡ turn_numbers given t }
 {
-    let answer = t.answer;
-    if answer == 0 {
-        return told_turn(t);
+    match t.answer {
+        0 | GAVE_UP | DIFFERS => told_turn(t),
+        answer => no_turn(answer, given),
     }
-    if answer == GAVE_UP {
-        return told_turn(t);
-    }
-    if answer == DIFFERS {
-        return told_turn(t);
-    }
-    no_turn(answer, given)
 }
 
 // Given the value last read, names the next cycle or the end: 5 for numbers that are no state in range.
@@ -292,13 +261,8 @@ pub fn turned(
 ) -> TurnNumbers
     ensures { (result ≡ (turned_of loading image.now seen.old read).turn) × (seen.new ≡ (turned_of loading image.now seen.old read).seen) }
 {
-    let d = loading.driver;
-    if OVER < loading.progress {
+    if OVER < loading.progress || ENDED_DIFFERS < loading.driver.phase {
         return no_turn(BAD_STATE, loading);
     }
-    if ENDED_DIFFERS < d.phase {
-        return no_turn(BAD_STATE, loading);
-    }
-    let g = loading_of(loading);
-    turn_numbers(loading, g.turn(image, seen, read))
+    turn_numbers(loading, Loading::from(loading).turn(image, seen, read))
 }

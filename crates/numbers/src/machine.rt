@@ -68,6 +68,7 @@ pub(crate) const NOTHING_TO_SEND: CycleNumbers = CycleNumbers {
     data: 0,
 };
 
+// kept: what may not change: which crate owns Phase, where alone a conversion between it and u32 may be an impl
 // The number of a phase.
 fn phase_number(phase: Phase) -> u32
     ensures { result ≡ phase_number phase }
@@ -83,55 +84,51 @@ fn phase_number(phase: Phase) -> u32
 }
 
 // The phase of a number: the last for any above it.
+#[tactic(auto, unfolding(crate::specs::Machine::phase_at))]
 fn phase_at(n: u32) -> Phase
     ensures { result ≡ phase_at n }
 {
-    if n == WRITING {
-        return Phase::Writing;
+    match n {
+        WRITING => Phase::Writing,
+        POLLING => Phase::Polling,
+        CONFIRMING => Phase::Confirming,
+        ENDED_DONE => Phase::Done,
+        ENDED_GAVE_UP => Phase::GaveUp,
+        _ => Phase::Differs,
     }
-    if n == POLLING {
-        return Phase::Polling;
-    }
-    if n == CONFIRMING {
-        return Phase::Confirming;
-    }
-    if n == ENDED_DONE {
-        return Phase::Done;
-    }
-    if n == ENDED_GAVE_UP {
-        return Phase::GaveUp;
-    }
-    Phase::Differs
 }
 
 // The numbers of a driver.
-pub(crate) fn driver_numbers(d: Driver) -> DriverNumbers
-    ensures { result ≡ driver_numbers d }
-{
-    let phase = d.phase;
-    DriverNumbers {
-        part: d.part,
-        command: d.command,
-        address: d.address,
-        data: d.data,
-        p: d.p,
-        phase: phase_number(phase),
-        count: d.count,
+impl From<Driver> for DriverNumbers {
+    ghost from_gives = { λ d n. n ≡ driver_numbers d };
+
+    fn from(d: Driver) -> DriverNumbers {
+        DriverNumbers {
+            part: d.part,
+            command: d.command,
+            address: d.address,
+            data: d.data,
+            p: d.p,
+            phase: phase_number(d.phase),
+            count: d.count,
+        }
     }
 }
 
 // The driver of some numbers.
-pub(crate) fn driver_of(n: DriverNumbers) -> Driver
-    ensures { result ≡ driver_of n }
-{
-    Driver {
-        part: n.part,
-        command: n.command,
-        address: n.address,
-        data: n.data,
-        p: n.p,
-        phase: phase_at(n.phase),
-        count: n.count,
+impl From<DriverNumbers> for Driver {
+    ghost from_gives = { λ n d. d ≡ driver_of n };
+
+    fn from(n: DriverNumbers) -> Driver {
+        Driver {
+            part: n.part,
+            command: n.command,
+            address: n.address,
+            data: n.data,
+            p: n.p,
+            phase: phase_at(n.phase),
+            count: n.count,
+        }
     }
 }
 
@@ -152,18 +149,19 @@ pub(crate) fn sent_numbers(elapsed: u32, action: Action) -> CycleNumbers
             address,
             data,
         },
-        Action::Idle => NOTHING_TO_SEND,
-        Action::Cut(_) => NOTHING_TO_SEND,
+        Action::Idle | Action::Cut(_) => NOTHING_TO_SEND,
     }
 }
 
 // The numbers of what a step names.
-fn next_numbers(next: Next) -> CycleNumbers
-    ensures { result ≡ next_numbers next }
-{
-    match next {
-        Next::Nothing => NOTHING_TO_SEND,
-        Next::Send(elapsed, action) => sent_numbers(elapsed, action),
+impl From<Next> for CycleNumbers {
+    ghost from_gives = { λ x n. n ≡ next_numbers x };
+
+    fn from(next: Next) -> CycleNumbers {
+        match next {
+            Next::Nothing => NOTHING_TO_SEND,
+            Next::Send(elapsed, action) => sent_numbers(elapsed, action),
+        }
     }
 }
 
@@ -171,24 +169,23 @@ fn next_numbers(next: Next) -> CycleNumbers
 pub fn start_numbers(s: Started) -> StartNumbers
     ensures { result ≡ start_numbers s }
 {
-    let d = s.driver;
     StartNumbers {
         answer: s.answer,
-        driver: driver_numbers(d),
+        driver: DriverNumbers::from(s.driver),
     }
 }
 
 // The numbers of a step.
-fn step_numbers(t: Step) -> StepNumbers
-    ensures { result ≡ step_numbers t }
-{
-    let d = t.driver;
-    let next = t.next;
-    StepNumbers {
-        answer: t.answer,
-        driver: driver_numbers(d),
-        cycle: next_numbers(next),
-        polls: t.polls,
+impl From<Step> for StepNumbers {
+    ghost from_gives = { λ t n. n ≡ step_numbers t };
+
+    fn from(t: Step) -> StepNumbers {
+        StepNumbers {
+            answer: t.answer,
+            driver: DriverNumbers::from(t.driver),
+            cycle: CycleNumbers::from(t.next),
+            polls: t.polls,
+        }
     }
 }
 
@@ -205,6 +202,5 @@ pub fn stepped(state: DriverNumbers, read: u16) -> StepNumbers
             polls: 0,
         };
     }
-    let d = driver_of(state);
-    step_numbers(d.step(read))
+    StepNumbers::from(Driver::from(state).step(read))
 }

@@ -1,4 +1,0 @@
-use Rattle.numbers.proofs.loading.begin_numbers.Goals as goal
-
-pub returns : goal.returns
-returns c = simp c.loading_numbers.ensures

@@ -1,6 +1,0 @@
-use Rattle.std.proofs.Common.{ℕ, sym}
-use Rattle.std.proofs.Math.ListN.{length-replicate}
-use Rattle.speed.proofs.part_8.Goals as goal
-
-pub returns : goal.returns
-returns c = sym (length-replicate {A = ℕ} 1048576 0)
