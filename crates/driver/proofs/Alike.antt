@@ -1,4 +1,5 @@
 -- A started driver that is stepped on by any function that gives what `step_of` says comes only to states that the types hold; so it talks as by `step_of`.
+use Rattle.std.specs.Prelude.{Some, None}
 use Prim.Native.Nat.{ℕ, zero, suc, ◌+◌, ◌≤◌, ◌<◌, ◌^◌}
 use mathlib.Core.Path.{◌≡◌, refl, ap, ◌∙◌}
 use mathlib.Core.Bool.{Bool, true}
@@ -17,8 +18,7 @@ use Rattle.device.proofs.Cases.{shown-word}
 use Rattle.driver.specs.declared.machine.Phase.{Phase}
 use Rattle.driver.specs.declared.machine.Phase.TheVariants.{Writing, Polling, Confirming, Done, GaveUp, Differs}
 use Rattle.driver.specs.declared.machine.Driver.{Driver}
-use Rattle.driver.specs.declared.machine.Next.{Next}
-use Rattle.driver.specs.declared.machine.Next.TheVariants.{Nothing, Send}
+use Rattle.driver.specs.Machine.{Next}
 use Rattle.driver.specs.declared.machine.Step.{Step}
 use Rattle.driver.specs.Refusals.{start_refusal}
 use Rattle.driver.specs.Machine.{address_of, data_of, begun, count_fits, in_range, moved, step_of}
@@ -102,10 +102,10 @@ module _ (part command a x p : ℕ) (accepted : start_refusal part command a x p
       where
         by : (y : Next) → ((v : ℕ) (k : Chip) → talk steps part wp n (step_of s.driver v) k ≡ talk step_of part wp n (step_of s.driver v) k)
             → ◌≡◌ {A = Told}
-            (elim y [ Nothing ↦ told [] h s | Send e a ↦ led (cycle e wp a) (talk steps part wp n (steps s.driver (shows part h (cycle e wp a))) (after part h (cycle e wp a))) ])
-            (elim y [ Nothing ↦ told [] h s | Send e a ↦ led (cycle e wp a) (talk step_of part wp n (step_of s.driver (shows part h (cycle e wp a))) (after part h (cycle e wp a))) ])
-        by Nothing ih = refl
-        by (Send e a) ih =
+            (elim y [ None ↦ told [] h s | Some (e, a) ↦ led (cycle e wp a) (talk steps part wp n (steps s.driver (shows part h (cycle e wp a))) (after part h (cycle e wp a))) ])
+            (elim y [ None ↦ told [] h s | Some (e, a) ↦ led (cycle e wp a) (talk step_of part wp n (step_of s.driver (shows part h (cycle e wp a))) (after part h (cycle e wp a))) ])
+        by None ih = refl
+        by (Some (e, a)) ih =
             let c = cycle e wp a in
             let v = shows part h c in
             ap (led c)
@@ -125,15 +125,15 @@ module _ (part command a x p : ℕ) (accepted : start_refusal part command a x p
         by : (y : Next) → heard steps wp (λ i. f (suc i)) n (step_of s.driver (f 0)) ≡ heard step_of wp (λ i. f (suc i)) n (step_of s.driver (f 0))
             → ◌≡◌ {A = Heard}
             (elim y [
-              | Nothing ↦ heard_of [] s
-              | Send e a ↦ heard_of (cycle e wp a ∷ (heard steps wp (λ i. f (suc i)) n (steps s.driver (f 0))).cycles) (heard steps wp (λ i. f (suc i)) n (steps s.driver (f 0))).last
+              | None ↦ heard_of [] s
+              | Some (e, a) ↦ heard_of (cycle e wp a ∷ (heard steps wp (λ i. f (suc i)) n (steps s.driver (f 0))).cycles) (heard steps wp (λ i. f (suc i)) n (steps s.driver (f 0))).last
             ])
             (elim y [
-              | Nothing ↦ heard_of [] s
-              | Send e a ↦ heard_of (cycle e wp a ∷ (heard step_of wp (λ i. f (suc i)) n (step_of s.driver (f 0))).cycles) (heard step_of wp (λ i. f (suc i)) n (step_of s.driver (f 0))).last
+              | None ↦ heard_of [] s
+              | Some (e, a) ↦ heard_of (cycle e wp a ∷ (heard step_of wp (λ i. f (suc i)) n (step_of s.driver (f 0))).cycles) (heard step_of wp (λ i. f (suc i)) n (step_of s.driver (f 0))).last
             ])
-        by Nothing ih = refl
-        by (Send e a) ih =
+        by None ih = refl
+        by (Some (e, a)) ih =
             ap (λ (t : Heard). heard_of (cycle e wp a ∷ t.cycles) t.last)
             (ap (λ (t : Step). heard steps wp (λ i. f (suc i)) n t) (as_said s.driver (f 0) w (words 0)) ∙ ih)
 

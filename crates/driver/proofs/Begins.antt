@@ -14,7 +14,6 @@ use Rattle.parts.specs.Table.{Found}
 use Rattle.device.specs.Sequence.{ignored}
 use Rattle.driver.proofs.Commands.{command-le, four}
 use Rattle.driver.specs.declared.machine.Started.{Started}
-use Rattle.driver.specs.declared.machine.Next.TheVariants.{Nothing}
 use Rattle.driver.specs.Refusals.{start_refusal}
 use Rattle.driver.specs.Writes.{last_write, writes_of, write_count}
 use Rattle.driver.specs.Machine.{address_of, data_of, bit_seven, bit_wanted, value_wanted, begun, start_of, in_range, step_of, writing_of}

@@ -1,5 +1,6 @@
 -- What a driver has named so far, by its state alone: the first of its writes; or all of them, its polls and the confirming read.
 -- Of each cycle g makes what is listed, from the phase that the driver is in once it has named it, the µs, and what the cycle does.
+use Rattle.std.specs.Prelude.{Some, None}
 use Prim.Native.Nat.{ℕ, zero, suc, ◌+◌, ◌≤◌, ◌<◌}
 use mathlib.Core.Path.{◌≡◌, refl, sym, ap, ◌∙◌}
 use mathlib.Core.Bool.{Bool, true, false}
@@ -20,8 +21,7 @@ use Rattle.commands.specs.declared.write.Write.{Write as Written}
 use Rattle.driver.specs.declared.machine.Phase.{Phase}
 use Rattle.driver.specs.declared.machine.Phase.TheVariants.{Writing, Polling, Confirming}
 use Rattle.driver.specs.declared.machine.Driver.{Driver}
-use Rattle.driver.specs.declared.machine.Next.{Next}
-use Rattle.driver.specs.declared.machine.Next.TheVariants.{Nothing, Send}
+use Rattle.driver.specs.Machine.{Next}
 use Rattle.driver.specs.declared.machine.Step.{Step}
 use Rattle.driver.specs.Writes.{no_write, writes_of, write_count}
 use Rattle.driver.specs.Machine.{address_of, confirm_after, writing, confirmed, in_range, step_of}
@@ -53,8 +53,8 @@ module _ (A : Type 0) (g : Phase → ℕ → Action → A) where
 
   -- what a step names
   abbrev pub now : Next → Phase → List A
-  now Nothing f = []
-  now (Send e a) f = g f e a ∷ []
+  now None f = []
+  now (Some (e, a)) f = g f e a ∷ []
 
   -- ---- one step more
   a_write : (ws : List Written) (n : ℕ) → n + 1 < length ws
@@ -106,16 +106,16 @@ module _ (A : Type 0) (g : Phase → ℕ → Action → A) where
   spoken part wp zero s h = []
   spoken part wp (suc n) s h =
       elim s.next [
-        | Nothing ↦ []
-        | Send e a ↦ g s.driver.phase e a ∷ spoken part wp n (step_of s.driver (shows part h (cycle e wp a))) (after part h (cycle e wp a))
+        | None ↦ []
+        | Some (e, a) ↦ g s.driver.phase e a ∷ spoken part wp n (step_of s.driver (shows part h (cycle e wp a))) (after part h (cycle e wp a))
       ]
 
   module _ (part : ℕ) (wp : Bool) (n : ℕ) (s : Step) (h : Chip) where
-    pub spoken-stops : s.next ≡ Nothing → spoken part wp (suc n) s h ≡ []
+    pub spoken-stops : s.next ≡ None → spoken part wp (suc n) s h ≡ []
     unfolding spoken
     spoken-stops q = rw (q, spoken)
 
-    pub spoken-goes : (e : ℕ) (a : Action) → s.next ≡ Send e a
+    pub spoken-goes : (e : ℕ) (a : Action) → s.next ≡ Some (e, a)
         → spoken part wp (suc n) s h ≡ g s.driver.phase e a ∷ spoken part wp n (step_of s.driver (shows part h (cycle e wp a))) (after part h (cycle e wp a))
     unfolding spoken
     spoken-goes e a q = rw (q, spoken)
@@ -127,7 +127,7 @@ module _ (A : Type 0) (g : Phase → ℕ → Action → A) where
   pub stays : (before : List A) (s : Step) → Adds before s s []
   stays before s e = e ∙ ap (λ (l : List A). l ++ now s.next s.driver.phase) (sym (append-nil before))
 
-  pub moves : (before : List A) (s t : Step) (e : ℕ) (a : Action) (L : List A) (read : ℕ) → s.next ≡ Send e a → in_range s.driver ≡ true
+  pub moves : (before : List A) (s t : Step) (e : ℕ) (a : Action) (L : List A) (read : ℕ) → s.next ≡ Some (e, a) → in_range s.driver ≡ true
       → Adds (before ++ (g s.driver.phase e a ∷ [])) (step_of s.driver read) t L → Adds before s t (g s.driver.phase e a ∷ L)
   moves before s t e a L read q i h k =
       let x = g s.driver.phase e a in
@@ -138,8 +138,8 @@ module _ (A : Type 0) (g : Phase → ℕ → Action → A) where
   talk-on : (part : ℕ) (wp : Bool) (n : ℕ) (before : List A) (s : Step) (h : Chip) → in_range s.driver ≡ true
       → ((before : List A) (s : Step) (h : Chip) → in_range s.driver ≡ true → Adds before s (talk step_of part wp n s h).last (spoken part wp n s h))
       → (x : Next) → s.next ≡ x → Adds before s (talk step_of part wp (suc n) s h).last (spoken part wp (suc n) s h)
-  talk-on part wp n before s h i ih Nothing q = rw (talk-stops part wp n s h q, spoken-stops part wp n s h q) (stays before s)
-  talk-on part wp n before s h i ih (Send e a) q =
+  talk-on part wp n before s h i ih None q = rw (talk-stops part wp n s h q, spoken-stops part wp n s h q) (stays before s)
+  talk-on part wp n before s h i ih (Some (e, a)) q =
       let c = cycle e wp a in
       let v = shows part h c in
       rw (talk-goes part wp n s h e a q, spoken-goes part wp n s h e a q)

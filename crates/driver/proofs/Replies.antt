@@ -1,4 +1,5 @@
 -- Whatever is replied: which of the three ends a driver's talk comes to, and what that says of the replies.
+use Rattle.std.specs.Prelude.{Some, None}
 use Prim.Native.Nat.{ℕ, zero, suc, ◌+◌, ◌-◌, ◌≤◌, ◌<◌}
 use mathlib.Core.Path.{◌≡◌, refl, sym, ap, ◌∙◌}
 use mathlib.Core.Bool.{Bool, true, false}
@@ -12,7 +13,6 @@ use Rattle.parts.specs.declared.table.Row.{Row}
 use Rattle.device.specs.declared.cycle.Action.{Action}
 use Rattle.driver.specs.declared.machine.Phase.TheVariants.{Writing, Polling, Confirming, Done, GaveUp, Differs}
 use Rattle.driver.specs.declared.machine.Driver.{Driver}
-use Rattle.driver.specs.declared.machine.Next.TheVariants.{Nothing, Send}
 use Rattle.driver.specs.declared.machine.Step.{Step}
 use Rattle.driver.specs.Refusals.{start_refusal}
 use Rattle.driver.specs.Writes.{write_count}
@@ -34,11 +34,11 @@ pub data ComesTo (b : Driver) (f : ℕ → ℕ) : Step → Type 0 where
 -- the step that a talk comes to, turn by turn
 module _ (wp : Bool) where
   sends : (n k e q : ℕ) (d : Driver) (a : Action) (f : ℕ → ℕ)
-      → (heard step_of wp f (suc n) (step k d (Send e a) q)).last ≡ (heard step_of wp (λ i. f (suc i)) n (step_of d (f 0))).last
+      → (heard step_of wp f (suc n) (step k d (Some (e, a)) q)).last ≡ (heard step_of wp (λ i. f (suc i)) n (step_of d (f 0))).last
   unfolding heard
   sends n k e q d a f = refl
 
-  rests : (n k q : ℕ) (d : Driver) (f : ℕ → ℕ) → (heard step_of wp f n (step k d Nothing q)).last ≡ step k d Nothing q
+  rests : (n k q : ℕ) (d : Driver) (f : ℕ → ℕ) → (heard step_of wp f n (step k d None q)).last ≡ step k d None q
   unfolding heard
   rests zero k q d f = refl
   rests (suc n) k q d f = refl

@@ -1,4 +1,5 @@
 -- A step, phase by phase: it keeps a state in range, brings the end nearer, counts its polls, and once ended repeats itself.
+use Rattle.std.specs.Prelude.{Some, None}
 use Prim.Native.Nat.{ℕ, suc, zero-le, ◌+◌, ◌-◌, ◌≤◌, ◌<◌}
 use mathlib.Core.Path.{◌≡◌, refl, sym, ◌∙◌}
 use mathlib.Core.Bool.{Bool, true, false}
@@ -13,8 +14,7 @@ use Rattle.device.specs.declared.cycle.Action.TheVariants.{Write}
 use Rattle.driver.specs.declared.machine.Phase.{Phase}
 use Rattle.driver.specs.declared.machine.Phase.TheVariants.{Writing, Polling, Confirming, Done, GaveUp, Differs}
 use Rattle.driver.specs.declared.machine.Driver.{Driver}
-use Rattle.driver.specs.declared.machine.Next.{Next}
-use Rattle.driver.specs.declared.machine.Next.TheVariants.{Nothing, Send}
+use Rattle.driver.specs.Machine.{Next}
 use Rattle.driver.specs.declared.machine.Step.{Step}
 use Rattle.driver.specs.Refusals.{start_refusal}
 use Rattle.driver.specs.Writes.{write_count}
@@ -27,7 +27,7 @@ pub goes : (d : Driver) (read : ℕ) → in_range d ≡ true → step_of d read 
 unfolding step_of
 goes d read e = rw e
 
-pub refuses : (d : Driver) (read : ℕ) → in_range d ≡ false → step_of d read ≡ step 5 d Nothing 0
+pub refuses : (d : Driver) (read : ℕ) → in_range d ≡ false → step_of d read ≡ step 5 d None 0
 unfolding step_of
 refuses d read e = rw e
 
@@ -57,9 +57,9 @@ write_next d = Write (next_write (row_of d.part) d).address (next_write (row_of 
 
 -- refused; a write, or the last one; a poll; the confirming read; or an end
 pub data Way (d : Driver) : Step → Type 0 where
-  refused : in_range d ≡ false → Way d (step 5 d Nothing 0)
-  writes : d.phase ≡ Writing → d.count + 1 < write_count d.command → Way d (step 0 (moved d Writing (d.count + 1)) (Send 0 (write_next d)) 0)
-  wrote : d.phase ≡ Writing → d.count + 1 ≡ write_count d.command → Way d (step 0 (moved d Polling 0) (Send 0 (write_next d)) 0)
+  refused : in_range d ≡ false → Way d (step 5 d None 0)
+  writes : d.phase ≡ Writing → d.count + 1 < write_count d.command → Way d (step 0 (moved d Writing (d.count + 1)) (Some (0, write_next d)) 0)
+  wrote : d.phase ≡ Writing → d.count + 1 ≡ write_count d.command → Way d (step 0 (moved d Polling 0) (Some (0, write_next d)) 0)
   waits : d.phase ≡ Polling → d.count < most d → Way d (polls d)
   matched : d.phase ≡ Polling → 0 < d.count → d.count ≤ most d → Way d (confirms d)
   ends : (f : Phase) → in_range d ≡ true → final f ≡ true → (writing f ≡ writing d.phase) × (confirmed f ≡ confirmed d.phase)
@@ -72,7 +72,7 @@ module _ (d : Driver) (read : ℕ) (e : in_range d ≡ true) where
   at-writing : d.phase ≡ Writing → Way d (writing_of (row_of d.part) d)
   unfolding writing_of after_write
   at-writing q =
-      split (λ (d' : Driver). Way d (step 0 d' (Send 0 (write_next d)) 0)) (ltb (d.count + 1) (write_count d.command)) _ _
+      split (λ (d' : Driver). Way d (step 0 d' (Some (0, write_next d)) 0)) (ltb (d.count + 1) (write_count d.command)) _ _
       (λ l. writes q (ltb-true _ _ l)) (λ l. wrote q (last (ltb-false _ _ l) (ltb-true _ _ (fits Writing q))))
     where
       last : write_count d.command ≤ d.count + 1 → d.count < write_count d.command → d.count + 1 ≡ write_count d.command
@@ -127,7 +127,7 @@ keeps d read e = go (step_of d read) (way d read)
     go s (ends f i z c h) = moved-in-range d f d.count e h
 
 -- ended, it repeats its ending; and so does a refused one
-pub repeats : (d : Driver) (read again : ℕ) → (step_of d read).next ≡ Nothing → step_of (step_of d read).driver again ≡ step_of d read
+pub repeats : (d : Driver) (read again : ℕ) → (step_of d read).next ≡ None → step_of (step_of d read).driver again ≡ step_of d read
 repeats d read again = go (step_of d read) (way d read) (keeps d read)
   where
     final-step : (f : Phase) (n : ℕ) → final f ≡ true → in_range (moved d f n) ≡ true → step_of (moved d f n) again ≡ ended (moved d f n) f
@@ -138,10 +138,10 @@ repeats d read again = go (step_of d read) (way d read) (keeps d read)
     final-step GaveUp n z i = goes (moved d GaveUp n) again i
     final-step Differs n z i = goes (moved d Differs n) again i
 
-    not-sent : (e : ℕ) (a : Action) (A : Type 0) → Send e a ≡ Nothing → A
+    not-sent : (e : ℕ) (a : Action) (A : Type 0) → ◌≡◌ {A = Next} (Some (e, a)) None → A
     not-sent e a A h = let z : ◌≡◌ {A = ℕ} 0 1 = cc in absurd (omega arith)
 
-    go : (s : Step) → Way d s → (in_range d ≡ true → in_range s.driver ≡ true) → s.next ≡ Nothing → step_of s.driver again ≡ s
+    go : (s : Step) → Way d s → (in_range d ≡ true → in_range s.driver ≡ true) → s.next ≡ None → step_of s.driver again ≡ s
     go s (refused f) i h = refuses d again f
     go s (writes q l) i h = not-sent _ _ _ h
     go s (wrote q l) i h = not-sent _ _ _ h
@@ -163,8 +163,8 @@ left d = left_in d.phase (write_count d.command) (most d) d.count
 
 -- with the cycle that a step names
 abbrev pub left_from : Next → Driver → ℕ
-left_from Nothing d = 0
-left_from (Send e a) d = suc (left d)
+left_from None d = 0
+left_from (Some (e, a)) d = suc (left d)
 
 -- a step brings the end nearer
 pub falls : (d : Driver) (read : ℕ) → left_from (step_of d read).next (step_of d read).driver ≤ left d
@@ -251,10 +251,10 @@ answers d read e = go (step_of d read) (way d read)
     go s (ends f i z c h) = refl
 
 -- where it names nothing, its phase is one that ends
-pub finishes : (d : Driver) (read : ℕ) → in_range d ≡ true → (step_of d read).next ≡ Nothing → final (step_of d read).driver.phase ≡ true
+pub finishes : (d : Driver) (read : ℕ) → in_range d ≡ true → (step_of d read).next ≡ None → final (step_of d read).driver.phase ≡ true
 finishes d read e = go (step_of d read) (way d read)
   where
-    go : (s : Step) → Way d s → s.next ≡ Nothing → final s.driver.phase ≡ true
+    go : (s : Step) → Way d s → s.next ≡ None → final s.driver.phase ≡ true
     go s (refused f) h = apart (sym f ∙ e)
     go s (writes q l) h = let z : ◌≡◌ {A = ℕ} 0 1 = cc in absurd (omega arith)
     go s (wrote q l) h = let z : ◌≡◌ {A = ℕ} 0 1 = cc in absurd (omega arith)
@@ -267,8 +267,8 @@ pub record StepInRange (s : Step) : Type 0 where
   pub range : in_range s.driver ≡ true
   pub carried : polls_by s.driver ≡ s.polls
   pub number : s.answer ≡ ending s.driver.phase
-  pub finished : s.next ≡ Nothing → final s.driver.phase ≡ true
-  pub again : s.next ≡ Nothing → (read : ℕ) → step_of s.driver read ≡ s
+  pub finished : s.next ≡ None → final s.driver.phase ≡ true
+  pub again : s.next ≡ None → (read : ℕ) → step_of s.driver read ≡ s
 
 pub kept : (d : Driver) (read : ℕ) → in_range d ≡ true → StepInRange (step_of d read)
 kept d read e = record { range = keeps d read e; carried = carries d read e; number = answers d read e; finished = finishes d read e; again = λ h r. repeats d read r h }

@@ -1,4 +1,5 @@
 -- A driver's talk with the model: the writes, the polls while the operation runs and once it has completed, and the end.
+use Rattle.std.specs.Prelude.{Some, None}
 use Prim.Native.Nat.{ℕ, zero, suc, zero-le, ◌+◌, ◌-◌, ◌*◌, ◌/◌, ◌%◌, ◌≤◌, ◌<◌}
 use mathlib.Core.Path.{◌≡◌, refl, sym, ap, subst, ◌∙◌}
 use mathlib.Core.Bool.{Bool, true, false, not}
@@ -40,8 +41,7 @@ use Rattle.commands.specs.declared.write.Write.{Write}
 use Rattle.driver.specs.declared.machine.Phase.{Phase}
 use Rattle.driver.specs.declared.machine.Phase.TheVariants.{Writing, Polling, Confirming, Done, GaveUp, Differs}
 use Rattle.driver.specs.declared.machine.Driver.{Driver}
-use Rattle.driver.specs.declared.machine.Next.{Next}
-use Rattle.driver.specs.declared.machine.Next.TheVariants.{Nothing, Send}
+use Rattle.driver.specs.Machine.{Next}
 use Rattle.driver.specs.declared.machine.Step.{Step}
 use Rattle.driver.specs.Refusals.{start_refusal}
 use Rattle.driver.specs.Writes.{write, no_write, last_write, writes_of, write_count, nth_write}
@@ -92,30 +92,30 @@ play-last part zero h c = refl
 play-last part (suc n) h c = play-last part n (after part h c) c
 
 -- ---- a talk, turn by turn
-pub silent : {A : Type 0} (e : ℕ) (a : Action) → Nothing ≡ Send e a → A
+pub silent : {A : Type 0} (e : ℕ) (a : Action) → ◌≡◌ {A = Next} None (Some (e, a)) → A
 silent {A} e a q = let z : ◌≡◌ {A = ℕ} 0 1 = cc in absurd (omega arith)
 
 module _ (part : ℕ) (wp : Bool) (m : ℕ) (t : Step) (h : Chip) where
-  pub talk-stops : t.next ≡ Nothing → talk step_of part wp (suc m) t h ≡ told [] h t
+  pub talk-stops : t.next ≡ None → talk step_of part wp (suc m) t h ≡ told [] h t
   unfolding talk
   talk-stops q = by t.next _ q
     where
-      by : (x : Next) (f : ℕ → Action → Told) → x ≡ Nothing → ◌≡◌ {A = Told} (elim x [ Nothing ↦ told [] h t | Send e a ↦ f e a ]) (told [] h t)
-      by Nothing f q = refl
-      by (Send e a) f q = silent e a (sym q)
+      by : (x : Next) (f : ℕ → Action → Told) → x ≡ None → ◌≡◌ {A = Told} (elim x [ None ↦ told [] h t | Some (e, a) ↦ f e a ]) (told [] h t)
+      by None f q = refl
+      by (Some (e, a)) f q = silent e a (sym q)
 
-  pub talk-goes : (e : ℕ) (a : Action) → t.next ≡ Send e a
+  pub talk-goes : (e : ℕ) (a : Action) → t.next ≡ Some (e, a)
       → talk step_of part wp (suc m) t h ≡ led (cycle e wp a) (talk step_of part wp m (step_of t.driver (shows part h (cycle e wp a))) (after part h (cycle e wp a)))
   unfolding talk
   talk-goes e a q = rw (q, talk)
 
 module _ (part : ℕ) (wp : Bool) where
   pub sends : (n k e q : ℕ) (d : Driver) (a : Action) (h : Chip) (o : Outcome) → cycle_of part h.cells h.device (cycle e wp a) ≡ o
-      → talk step_of part wp (suc n) (step k d (Send e a) q) h ≡ led (cycle e wp a) (talk step_of part wp n (step_of d o.reply.value) (leaves o))
+      → talk step_of part wp (suc n) (step k d (Some (e, a)) q) h ≡ led (cycle e wp a) (talk step_of part wp n (step_of d o.reply.value) (leaves o))
   unfolding talk after
   sends n k e q d a h o eq = ap (λ (o : Outcome). led (cycle e wp a) (talk step_of part wp n (step_of d o.reply.value) (leaves o))) eq
 
-  pub rests-told : (n k q : ℕ) (d : Driver) (h : Chip) → talk step_of part wp n (step k d Nothing q) h ≡ told [] h (step k d Nothing q)
+  pub rests-told : (n k q : ℕ) (d : Driver) (h : Chip) → talk step_of part wp n (step k d None q) h ≡ told [] h (step k d None q)
   unfolding talk
   rests-told zero k q d h = refl
   rests-told (suc n) k q d h = refl
@@ -209,7 +209,7 @@ module _ (b : Driver) (accepted : start_refusal b.part b.command b.address b.«d
   first-poll read = takes Polling 0 read (le-leb 0 (most b) zero-le) ∙ rw (lt-ltb 0 (most b) some-polls)
 
   pub write_step : (k read : ℕ) → k < write_count b.command
-      → step_of (moved b Writing k) read ≡ step 0 (driver_at (suc k)) (Send 0 (write_cycle wp (nth_write r b.command b.address b.«data» k)).action) 0
+      → step_of (moved b Writing k) read ≡ step 0 (driver_at (suc k)) (Some (0, (write_cycle wp (nth_write r b.command b.address b.«data» k)).action)) 0
   unfolding writing_of after_write driver_at
   write_step k read h = takes Writing k read (lt-ltb k (write_count b.command) h) ∙ rw (add-one k)
 

@@ -1,4 +1,5 @@
 -- What is proved of the driver, over all parts at once. Every hypothesis stands in the statement; a refusal of 0 says that what is asked is accepted.
+use Rattle.std.specs.Prelude.{None}
 use Prim.Native.Nat.{ℕ, ◌+◌, ◌-◌, ◌*◌, ◌^◌, ◌≤◌, ◌<◌}
 use mathlib.Core.Path.{◌≡◌, refl, sym, ap, ◌∙◌}
 use mathlib.Core.Bool.{Bool, true, false}
@@ -24,7 +25,6 @@ use Rattle.device.specs.Cycle.{cycle, Chip, chip, outputs_of}
 use Rattle.device.specs.Trace.{play, started_in}
 use Rattle.driver.specs.declared.machine.Phase.{Phase}
 use Rattle.driver.specs.declared.machine.Phase.TheVariants.{Polling, Done, GaveUp, Differs}
-use Rattle.driver.specs.declared.machine.Next.TheVariants.{Nothing}
 use Rattle.driver.specs.declared.machine.Driver.{Driver}
 use Rattle.driver.specs.declared.machine.Step.{Step}
 use Rattle.driver.specs.Refusals.{command_refusal, start_refusal}
@@ -291,6 +291,6 @@ module _ (part command address word p : ℕ) (accepted : start_refusal part comm
 -- ---- a refused start
 -- It hands back the all-zero state, which a step answers with 5, whatever is read: it names nothing and hands the state back.
 pub refused-steps : (part command address word p : ℕ) → (start_refusal part command address word p ≡ 0 → ⊥)
-    → ((start_of part command address word p).driver ≡ no_driver) × ((read : ℕ) → step_of no_driver read ≡ step 5 no_driver Nothing 0)
+    → ((start_of part command address word p).driver ≡ no_driver) × ((read : ℕ) → step_of no_driver read ≡ step 5 no_driver None 0)
 unfolding start_of in_range start_refusal part_refusal is_interval
 refused-steps part command address word p n = (rw (ne_eqb (start_refusal part command address word p) 0 n), λ read. refuses no_driver read refl)

@@ -1,4 +1,5 @@
 -- Whatever is replied: that a driver's talk ends, and what it has named then.
+use Rattle.std.specs.Prelude.{Some, None}
 use Prim.Native.Nat.{ℕ, zero, suc, ◌≤◌}
 use mathlib.Core.Path.{◌≡◌, refl, ap, ◌∙◌}
 use mathlib.Core.Bool.{Bool}
@@ -7,8 +8,7 @@ use native.Mathlib.Nat.{le_trans, le_of_suc-le-suc, not-suc-le-zero}
 use Rattle.device.specs.declared.cycle.Cycle.{Cycle}
 use Rattle.device.specs.Cycle.{cycle}
 use Rattle.driver.specs.declared.machine.Driver.{Driver}
-use Rattle.driver.specs.declared.machine.Next.{Next}
-use Rattle.driver.specs.declared.machine.Next.TheVariants.{Nothing, Send}
+use Rattle.driver.specs.Machine.{Next}
 use Rattle.driver.specs.declared.machine.Step.{Step}
 use Rattle.driver.specs.Machine.{moved, step_of}
 use Rattle.driver.specs.Talk.{Heard, heard_of, heard}
@@ -21,22 +21,22 @@ module _ (wp : Bool) where
   rest f n s = heard step_of wp (λ i. f (suc i)) n (step_of s.driver (f 0))
 
   abbrev turn : (ℕ → ℕ) → ℕ → Step → Next → Heard
-  turn f n s x = elim x [ Nothing ↦ heard_of [] s | Send e a ↦ heard_of (cycle e wp a ∷ (rest f n s).cycles) (rest f n s).last ]
+  turn f n s x = elim x [ None ↦ heard_of [] s | Some (e, a) ↦ heard_of (cycle e wp a ∷ (rest f n s).cycles) (rest f n s).last ]
 
   -- once as many have been sent as are left, it has ended
-  pub over : (n : ℕ) (f : ℕ → ℕ) (s : Step) → left_from s.next s.driver ≤ n → (heard step_of wp f n s).last.next ≡ Nothing
+  pub over : (n : ℕ) (f : ℕ → ℕ) (s : Step) → left_from s.next s.driver ≤ n → (heard step_of wp f n s).last.next ≡ None
   unfolding heard
   over zero f s = go s.next refl
     where
-      go : (x : Next) → s.next ≡ x → left_from x s.driver ≤ 0 → s.next ≡ Nothing
-      go Nothing q h = q
-      go (Send e a) q h = absurd (not-suc-le-zero h)
+      go : (x : Next) → s.next ≡ x → left_from x s.driver ≤ 0 → s.next ≡ None
+      go None q h = q
+      go (Some (e, a)) q h = absurd (not-suc-le-zero h)
   over (suc n) f s = go s.next refl (over n (λ i. f (suc i)) (step_of s.driver (f 0)))
     where
-      go : (x : Next) → s.next ≡ x → (left_from (step_of s.driver (f 0)).next (step_of s.driver (f 0)).driver ≤ n → (rest f n s).last.next ≡ Nothing)
-          → left_from x s.driver ≤ suc n → (turn f n s x).last.next ≡ Nothing
-      go Nothing q ih h = q
-      go (Send e a) q ih h = ih (le_trans (falls s.driver (f 0)) (le_of_suc-le-suc h))
+      go : (x : Next) → s.next ≡ x → (left_from (step_of s.driver (f 0)).next (step_of s.driver (f 0)).driver ≤ n → (rest f n s).last.next ≡ None)
+          → left_from x s.driver ≤ suc n → (turn f n s x).last.next ≡ None
+      go None q ih h = q
+      go (Some (e, a)) q ih h = ih (le_trans (falls s.driver (f 0)) (le_of_suc-le-suc h))
 
   -- the step that stands: of a state in range, that asks what was asked; and its state says what was named
   pub record Stands (before : List Cycle) (s : Step) (t : Heard) : Type 0 where
@@ -50,8 +50,8 @@ module _ (wp : Bool) where
   stands (suc n) f before s k = go s.next refl (λ b. stands n (λ i. f (suc i)) b (step_of s.driver (f 0)) (kept s.driver (f 0) k.range))
     where
       go : (x : Next) → s.next ≡ x → ((b : List Cycle) → Stands b (step_of s.driver (f 0)) (rest f n s)) → Stands before s (turn f n s x)
-      go Nothing q w = record { kept = k; asked = refl; adds = stays Cycle (as_cycle wp) before s }
-      go (Send e a) q w =
+      go None q w = record { kept = k; asked = refl; adds = stays Cycle (as_cycle wp) before s }
+      go (Some (e, a)) q w =
           let t = w (before ++ (cycle e wp a ∷ [])) in
           record {
             kept = t.kept;

@@ -1,12 +1,11 @@
 -- A driver's endings: the bits that no program raises; how a talk stands that has ended; and what its number says of the replies, whatever they are.
-use Rattle.std.specs.Prelude.{ℕ, ◌+◌, ◌-◌, ◌*◌, ◌^◌, ◌≤◌, ◌<◌, ◌≡◌, Bool, true, length}
+use Rattle.std.specs.Prelude.{ℕ, ◌+◌, ◌-◌, ◌*◌, ◌^◌, ◌≤◌, ◌<◌, ◌≡◌, Bool, true, length, None}
 use Rattle.std.specs.Int.Bits.{bit_and}
 use Rattle.parts.specs.Names.{GAVE-UP, DIFFERS}
 use Rattle.parts.specs.Width.{value_of}
 use Rattle.parts.specs.Table.{row_of}
 use Rattle.parts.specs.Time.{polls_of}
 use Rattle.parts.specs.declared.table.Row.{Row}
-use Rattle.driver.specs.declared.machine.Next.TheVariants.{Nothing}
 use Rattle.driver.specs.declared.machine.Step.{Step}
 use Rattle.driver.specs.Writes.{write_count}
 use Rattle.driver.specs.Machine.{bit_seven, bit_wanted, value_wanted, ending, final}
@@ -26,7 +25,7 @@ MustRaiseSeven old x = (bit_seven old ≡ 0) × (bit_seven x ≡ 1)
 -- up, one confirming read, so at most its writes, 2N polls and one read more; its phase is one that ends, and its answer that ending's number, 0, 11 or 12;
 -- and it repeats its ending, whatever word is read
 pub record Ended (steps : Stepping) (part command address word p : ℕ) (wp : Bool) (t : Heard) : Type 0 where
-  pub names-nothing : t.last.next ≡ Nothing
+  pub names-nothing : t.last.next ≡ None
   pub sent : t.cycles ≡ operation_cycles (row_of part) wp command address word p t.last.polls t.last.driver.phase
   pub polls-few : t.last.polls ≤ polls_of (row_of part) command p * 2
   pub cycles-few : length t.cycles ≤ write_count command + polls_of (row_of part) command p * 2 + 1

@@ -1,5 +1,5 @@
 -- The driver: a machine that hands its state back from each step.
-use Rattle.std.specs.Prelude.{ℕ, ◌+◌, ◌*◌, ◌/◌, ◌%◌, Bool, true, false, eqb, ltb, leb}
+use Rattle.std.specs.Prelude.{ℕ, ◌+◌, ◌*◌, ◌/◌, ◌%◌, Bool, true, false, Option, Some, None, eqb, ltb, leb}
 use Rattle.parts.specs.Names.{PROGRAM, CHIP, BIT-7, BAD-STATE, GAVE-UP, DIFFERS}
 use Rattle.parts.specs.Pick.{pick}
 use Rattle.parts.specs.Width.{value_of, blank_of}
@@ -12,8 +12,7 @@ use Rattle.driver.specs.declared.machine.Phase.{Phase}
 use Rattle.driver.specs.declared.machine.Phase.TheVariants.{Writing, Polling, Confirming, Done, GaveUp, Differs}
 use Rattle.driver.specs.declared.machine.Driver.{Driver}
 use Rattle.driver.specs.declared.machine.Started.{Started}
-use Rattle.driver.specs.declared.machine.Next.{Next}
-use Rattle.driver.specs.declared.machine.Next.TheVariants.{Nothing, Send}
+use Rattle.device.specs.declared.cycle.Action.{Action}
 use Rattle.driver.specs.declared.machine.Step.{Step}
 use Rattle.driver.specs.Refusals.{start_refusal}
 use Rattle.driver.specs.Writes.{write_count, nth_write}
@@ -86,6 +85,10 @@ in_range d =
 abbrev pub moved : Driver → Phase → ℕ → Driver
 moved d f n = driver d.part d.command d.address d.«data» d.p f n
 
+-- what a step names: no cycle, or the µs since the last one and what the next one does
+abbrev pub Next : Type 0
+Next = Option (ℕ × Action)
+
 abbrev pub step : ℕ → Driver → Next → ℕ → Step
 step n d x polls = record { answer = n; driver = d; next = x; polls = polls }
 
@@ -126,7 +129,7 @@ confirmed Differs = true
 
 -- the end, which a finished driver repeats
 abbrev pub ended : Driver → Phase → Step
-ended d f = step (ending f) (moved d f d.count) Nothing d.count
+ended d f = step (ending f) (moved d f d.count) None d.count
 
 -- naming the last write goes on to polling
 unfoldable pub after_write : Driver → Driver
@@ -137,11 +140,11 @@ abbrev pub next_write : Row → Driver → Written
 next_write r d = nth_write r d.command d.address d.«data» d.count
 
 unfoldable pub writing_of : Row → Driver → Step
-writing_of r d = step 0 (after_write d) (Send 0 (Write (next_write r d).address (next_write r d).«data»)) 0
+writing_of r d = step 0 (after_write d) (Some (0, Write (next_write r d).address (next_write r d).«data»)) 0
 
 -- one more poll, p µs after the last cycle
 abbrev pub polls : Driver → Step
-polls d = step 0 (moved d Polling (d.count + 1)) (Send d.p (Read (address_of d.command d.address))) (d.count + 1)
+polls d = step 0 (moved d Polling (d.count + 1)) (Some (d.p, Read (address_of d.command d.address))) (d.count + 1)
 
 -- the µs from the last poll to the confirming read: the word is there a microsecond after bit 7
 unfoldable pub confirm_after : ℕ
@@ -149,7 +152,7 @@ confirm_after = 1
 
 -- the confirming read
 abbrev pub confirms : Driver → Step
-confirms d = step 0 (moved d Confirming d.count) (Send confirm_after (Read (address_of d.command d.address))) d.count
+confirms d = step 0 (moved d Confirming d.count) (Some (confirm_after, Read (address_of d.command d.address))) d.count
 
 -- the reply to a poll shows the wanted bit 7
 unfoldable pub matches : Driver → ℕ → Bool
@@ -175,10 +178,10 @@ phase_of r Differs d read = ended d Differs
 
 -- given the value last read, the next cycle or the end; 5, with the state handed back, for one out of range
 unfoldable pub step_of : Driver → ℕ → Step
-step_of d read = pick (in_range d) (phase_of (row_of d.part) d.phase d read) (step BAD-STATE d Nothing 0)
+step_of d read = pick (in_range d) (phase_of (row_of d.part) d.phase d read) (step BAD-STATE d None 0)
 
 -- a start and its first step at once; a refused start names nothing
 unfoldable pub start_writing : ℕ → ℕ → ℕ → ℕ → ℕ → Step
 start_writing part command a x p =
     pick (eqb (start_of part command a x p).answer 0) (step_of (start_of part command a x p).driver 0)
-    (step (start_of part command a x p).answer (start_of part command a x p).driver Nothing 0)
+    (step (start_of part command a x p).answer (start_of part command a x p).driver None 0)

@@ -1,5 +1,5 @@
 -- A driver against the model of the chip, and against any replies.
-use Rattle.std.specs.Prelude.{ℕ, zero, suc, ◌^◌, ◌<◌, ◌≡◌, Bool, List, [], ◌∷◌, ◌++◌, map, get_or, replicate}
+use Rattle.std.specs.Prelude.{ℕ, zero, suc, ◌^◌, ◌<◌, ◌≡◌, Bool, List, [], ◌∷◌, ◌++◌, map, get_or, replicate, Some, None}
 use Rattle.parts.specs.Pick.{pick}
 use Rattle.parts.specs.Width.{value_of}
 use Rattle.parts.specs.declared.table.Row.{Row}
@@ -13,7 +13,6 @@ use Rattle.device.specs.Trace.{after}
 use Rattle.commands.specs.declared.write.Write.{Write as Written}
 use Rattle.driver.specs.declared.machine.Phase.{Phase}
 use Rattle.driver.specs.declared.machine.Driver.{Driver}
-use Rattle.driver.specs.declared.machine.Next.TheVariants.{Nothing, Send}
 use Rattle.driver.specs.declared.machine.Step.{Step}
 use Rattle.driver.specs.Writes.{last_write, writes_of}
 use Rattle.driver.specs.Machine.{address_of, confirm_after, confirmed, step_of}
@@ -84,8 +83,8 @@ unfoldable pub talk : Stepping → ℕ → Bool → ℕ → Step → Chip → To
 talk steps part wp zero s h = told [] h s
 talk steps part wp (suc n) s h =
     elim s.next [
-      | Nothing ↦ told [] h s
-      | Send e a ↦ led (cycle e wp a) (talk steps part wp n (steps s.driver (shows part h (cycle e wp a))) (after part h (cycle e wp a)))
+      | None ↦ told [] h s
+      | Some (e, a) ↦ led (cycle e wp a) (talk steps part wp n (steps s.driver (shows part h (cycle e wp a))) (after part h (cycle e wp a)))
     ]
 
 -- ---- against any replies
@@ -101,8 +100,8 @@ unfoldable pub heard : Stepping → Bool → (ℕ → ℕ) → ℕ → Step → 
 heard steps wp f zero s = heard_of [] s
 heard steps wp f (suc n) s =
     elim s.next [
-      | Nothing ↦ heard_of [] s
-      | Send e a ↦
+      | None ↦ heard_of [] s
+      | Some (e, a) ↦
           heard_of (cycle e wp a ∷ (heard steps wp (λ i. f (suc i)) n (steps s.driver (f 0))).cycles)
           (heard steps wp (λ i. f (suc i)) n (steps s.driver (f 0))).last
     ]

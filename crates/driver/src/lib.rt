@@ -5,5 +5,5 @@ mod machine;
 mod refusals;
 mod writes;
 
-pub use machine::{CONFIRM_AFTER, Driver, Next, Phase, Started, Step, start, start_writing};
+pub use machine::{CONFIRM_AFTER, Driver, Phase, Started, Step, start, start_writing};
 pub use writes::{Writes, command_writes, kth_write};

@@ -44,21 +44,14 @@ pub struct Started {
     pub driver: Driver,
 }
 
-// What a step names: nothing, or the µs since the last cycle and what the next one does. The
-// caller sets WP#.
-#[derive(Clone, Copy)]
-pub enum Next {
-    Nothing,
-    Send(u32, Action),
-}
-
 // A step's answer: 0 with a cycle; 0, 11 or 12 at the end; or the refusal 5. Then the driver
-// handed back, the cycle, and the polls named so far.
+// handed back, the cycle, if one is named (the µs since the last one and what it does; the caller
+// sets WP#), and the polls named so far.
 #[derive(Clone, Copy)]
 pub struct Step {
     pub answer: u32,
     pub driver: Driver,
-    pub next: Next,
+    pub next: Option<(u32, Action)>,
     pub polls: u32,
 }
 
@@ -243,12 +236,12 @@ impl Driver {
 
     // The end in a phase, with its number.
     fn end(self, phase: Phase, number: u32) -> Step
-        ensures { result ≡ step number (moved self phase self.count) Next.Nothing self.count }
+        ensures { result ≡ step number (moved self phase self.count) None self.count }
     {
         Step {
             answer: number,
             driver: self.moved_to(phase, self.count),
-            next: Next::Nothing,
+            next: None,
             polls: self.count,
         }
     }
@@ -278,7 +271,7 @@ impl Driver {
         Step {
             answer: 0,
             driver: self.after_write(),
-            next: Next::Send(0, write),
+            next: Some((0, write)),
             polls: 0,
         }
     }
@@ -300,7 +293,7 @@ impl Driver {
         Step {
             answer: 0,
             driver: self.moved_to(Phase::Polling, n),
-            next: Next::Send(self.p, action),
+            next: Some((self.p, action)),
             polls: n,
         }
     }
@@ -315,7 +308,7 @@ impl Driver {
         Step {
             answer: 0,
             driver: self.moved_to(Phase::Confirming, polls),
-            next: Next::Send(CONFIRM_AFTER, action),
+            next: Some((CONFIRM_AFTER, action)),
             polls,
         }
     }
@@ -365,7 +358,7 @@ impl Driver {
             return Step {
                 answer: Refusal::BadState.number(),
                 driver: self,
-                next: Next::Nothing,
+                next: None,
                 polls: 0,
             };
         };
