@@ -1,4 +1,5 @@
 -- Demand 1 is met. What is proved stands in specs/Demand1.antt.
+use Rattle.std.specs.Prelude.{None}
 use Prim.Native.Nat.{ℕ, zero, suc, ◌-◌, ◌<◌}
 use mathlib.Core.Path.{◌≡◌, refl, sym, ap, ◌∙◌}
 use mathlib.Core.Bool.{Bool, true, false}
@@ -24,7 +25,6 @@ use Rattle.driver.specs.declared.machine.Driver.{Driver}
 use Rattle.driver.specs.declared.machine.Step.{Step}
 use Rattle.driver.specs.declared.machine.Phase.{Phase}
 use Rattle.driver.specs.declared.machine.Phase.TheVariants.{Writing, Polling, Confirming, Done, GaveUp, Differs}
-use Rattle.driver.specs.declared.machine.Next.TheVariants.{Nothing}
 use Rattle.driver.specs.Refusals.{start_refusal}
 use Rattle.driver.specs.Writes.{no_write, command_writes, kth, kth_refusal, kth_write}
 use Rattle.driver.specs.Machine.{value_wanted, no_driver, start_of, start_writing, most_polls, in_range, step, ended, writing_of, polls, matches, polling_of, confirming_of, phase_of, step_of}
@@ -60,14 +60,14 @@ by-test answer n good bad g b = record { exactly = by (eqb n 0) refl; beside = �
 -- ---- a start that names its first write
 starts-refuse : (part command address x p : ℕ)
     → Refuses Step (start_writing part command address x p).answer (start_refusal part command address x p) (start_writing part command address x p)
-    (step (start_refusal part command address x p) no_driver Nothing 0)
+    (step (start_refusal part command address x p) no_driver None 0)
 unfolding start_writing start_of step_of writing_of
 starts-refuse part command address x p = by (eqb n 0) refl
   where
     n : ℕ
     n = start_refusal part command address x p
 
-    by : (t : Bool) → eqb n 0 ≡ t → Refuses Step (start_writing part command address x p).answer n (start_writing part command address x p) (step n no_driver Nothing 0)
+    by : (t : Bool) → eqb n 0 ≡ t → Refuses Step (start_writing part command address x p).answer n (start_writing part command address x p) (step n no_driver None 0)
     by true t = let z = eqb-true n 0 t in record { exactly = simp (t, start-range part command address x p z) (sym z); beside = λ e. absurd (e z) }
     by false t = record { exactly = simp t; beside = λ e. simp t }
 
@@ -91,7 +91,7 @@ step-refuses c = record { only = λ e. by (in_range d) refl (rw c.promise at e);
     d : Driver
     d = (to_step c).driver
 
-    by : (t : Bool) → in_range d ≡ t → (pick t (phase_of (row_of d.part) d.phase d (to_step c).read) (step 5 d Nothing 0)).answer ≡ 5 → t ≡ false
+    by : (t : Bool) → in_range d ≡ t → (pick t (phase_of (row_of d.part) d.phase d (to_step c).read) (step 5 d None 0)).answer ≡ 5 → t ≡ false
     by true t e = absurd (phases-answer (row_of d.part) d.phase d (to_step c).read e)
     by false t e = refl
 
@@ -101,14 +101,14 @@ unfolding start_of
 start-refuses c = rw c.promise (by-test (λ (t : Started). t.answer) (refused_start (to_start c.given)) _ _ refl refl)
 
 start-writing-refuses : (c : StartWritingCall)
-    → Refuses Step c.back.answer (refused_start (to_start c.given)) c.back (step (refused_start (to_start c.given)) no_driver Nothing 0)
+    → Refuses Step c.back.answer (refused_start (to_start c.given)) c.back (step (refused_start (to_start c.given)) no_driver None 0)
 start-writing-refuses c = let g = to_start c.given in rw c.promise (starts-refuse g.part g.command g.address g.word g.p)
 
-no-driver-steps : (g : ToStart) → (refused_start g ≡ 0 → ⊥) → (d : Driver) → d ≡ no_driver → (e : StepCall) → (to_step e).driver ≡ d → e.back ≡ step 5 d Nothing 0
+no-driver-steps : (g : ToStart) → (refused_start g ≡ 0 → ⊥) → (d : Driver) → d ≡ no_driver → (e : StepCall) → (to_step e).driver ≡ d → e.back ≡ step 5 d None 0
 no-driver-steps g n d none e same =
     e.promise
     ∙ (ap (λ (d : Driver). step_of d (to_step e).read) (same ∙ none)
-    ∙ ((refused-steps g.part g.command g.address g.word g.p n).1 (to_step e).read ∙ ap (λ (d : Driver). step 5 d Nothing 0) (sym none)))
+    ∙ ((refused-steps g.part g.command g.address g.word g.p n).1 (to_step e).read ∙ ap (λ (d : Driver). step 5 d None 0) (sym none)))
 
 -- ---- the C controller's start, step and bus cycle
 stations-start : (part command address x p : ℕ) → let t = start_numbers (start_of part command address x p) in let n = start_refusal part command address x p in

@@ -1,4 +1,5 @@
 -- Demand 2 is met. What is proved stands in specs/Demand2.antt.
+use Rattle.std.specs.Prelude.{None}
 use Prim.Native.Nat.{ℕ, ◌+◌, ◌-◌, ◌*◌, ◌/◌, ◌^◌, ◌≤◌, ◌<◌}
 use mathlib.Core.Path.{◌≡◌, refl, sym, subst, ap, ap₂, ◌∙◌}
 use mathlib.Core.Bool.{Bool, true, false}
@@ -33,7 +34,6 @@ use Rattle.driver.specs.declared.machine.Started.{Started}
 use Rattle.driver.specs.declared.machine.Step.{Step}
 use Rattle.driver.specs.declared.machine.Phase.{Phase}
 use Rattle.driver.specs.declared.machine.Phase.TheVariants.{Writing, Polling, Confirming, Done, GaveUp, Differs}
-use Rattle.driver.specs.declared.machine.Next.TheVariants.{Nothing}
 use Rattle.driver.specs.Refusals.{command_refusal, start_refusal}
 use Rattle.driver.specs.Writes.{write, unlock, last_write, write_count, writes_of, six_places, command_writes}
 use Rattle.driver.specs.Machine.{address_of, confirm_after, bit_seven, bit_wanted, start_of, most_polls, count_fits, in_range, step, matches, polling_of, confirming_of, phase_of, step_of}
@@ -236,8 +236,8 @@ module _ (d : Driver) (u v : ℕ) where
       fits = count_fits d.phase (write_count d.command) (most_polls (row_of d.part) d.command d.p) d.count
 
       by : (t : Bool) → eqb (start_refusal d.part d.command d.address d.«data» d.p) 0 ≡ t
-          → pick (pick t fits false) (phase_of (row_of d.part) d.phase d u) (step 5 d Nothing 0) ≡ pick (pick t fits false) (phase_of (row_of d.part) d.phase d v) (step 5 d Nothing 0)
-      by true t = ap (λ (x : Step). pick fits x (step 5 d Nothing 0)) (same (eqb-true _ 0 t))
+          → pick (pick t fits false) (phase_of (row_of d.part) d.phase d u) (step 5 d None 0) ≡ pick (pick t fits false) (phase_of (row_of d.part) d.phase d v) (step 5 d None 0)
+      by true t = ap (λ (x : Step). pick fits x (step 5 d None 0)) (same (eqb-true _ 0 t))
       by false t = refl
 
 -- bit 7 of two words of the same value, where a step looks at them

@@ -1,4 +1,5 @@
 -- What is said of the loader for a real socket is proved. It stands in specs/Socket.antt.
+use Rattle.std.specs.Prelude.{None}
 use Prim.Native.Nat.{ℕ}
 use mathlib.Core.Path.{◌≡◌, refl, sym, ap, ◌∙◌}
 use mathlib.Core.Bool.{Bool, true, false}
@@ -14,7 +15,6 @@ use Rattle.bus.specs.Cycle.{device_numbers}
 use Rattle.job.specs.declared.loading.Progress.TheVariants.{Waiting}
 use Rattle.job.specs.declared.loading.Loading.{Loading}
 use Rattle.job.specs.declared.loading.Begun.{Begun}
-use Rattle.job.specs.declared.loading.Sending.TheVariants.{SendsNothing}
 use Rattle.request.specs.Refusal.{job_refusal}
 use Rattle.job.specs.Bill.{played, report_of}
 use Rattle.job.specs.Loading.{loading, begin_load, is_ending, loading_in_range, load_turn, load_turned, load_turn_of}
@@ -71,12 +71,12 @@ begin-taken : (g : ToBegin) → refused_begin g ≡ 0
 unfolding begin_load
 begin-taken g z = rw z
 
-out_of : (g : Loading) (image seen : List ℕ) (read : ℕ) → loading_in_range g image ≡ false → load_turn_of g image seen read ≡ load_turned seen (load_turn 5 g SendsNothing)
+out_of : (g : Loading) (image seen : List ℕ) (read : ℕ) → loading_in_range g image ≡ false → load_turn_of g image seen read ≡ load_turned seen (load_turn 5 g None)
 unfolding load_turn_of
 out_of g image seen read e = rw e
 
 -- a turn that refuses
-turn-refusing : (c : TurnCall) → let g = to_turn c in is_ending c.back.answer ≡ false → turn_left c ≡ load_turned g.seen (load_turn c.back.answer g.loading SendsNothing)
+turn-refusing : (c : TurnCall) → let g = to_turn c in is_ending c.back.answer ≡ false → turn_left c ≡ load_turned g.seen (load_turn c.back.answer g.loading None)
 turn-refusing c h =
     let g = to_turn c in
     let e = sym (turn-left c) in

@@ -2,7 +2,7 @@
 -- changes no cell; all other numbers beside a refusal are 0. Of each exported function that refuses: what it answers is the
 -- number that the named refusal gives, 0 for none. That every call ends, whatever its arguments, needs no theorem: each
 -- function is proved to end for all arguments that its `requires` allows, and no exported function has one.
-use Rattle.std.specs.Prelude.{ℕ, ◌≡◌, true, false, [], eqb, length}
+use Rattle.std.specs.Prelude.{ℕ, ◌≡◌, true, false, [], eqb, length, None}
 use Rattle.parts.specs.Names.{BAD-STATE, BAD-FILE, WRONG-CELLS}
 use Rattle.parts.specs.Pick.{◌when◌, ◌else◌, ◌unless◌, ◌or_else◌}
 use Rattle.parts.specs.Table.{no_line, row_from, part_refusal, row_of}
@@ -13,7 +13,6 @@ use Rattle.device.specs.Cycle.{Outcome, reply}
 use Rattle.driver.specs.declared.machine.Started.{Started}
 use Rattle.driver.specs.declared.machine.Driver.{Driver}
 use Rattle.driver.specs.declared.machine.Step.{Step}
-use Rattle.driver.specs.declared.machine.Next.TheVariants.{Nothing}
 use Rattle.driver.specs.declared.writes.Writes.{Writes}
 use Rattle.driver.specs.declared.writes.Kth.{Kth}
 use Rattle.driver.specs.Writes.{no_write, writes, kth}
@@ -40,7 +39,7 @@ pub record Refuses (A : Type 0) (answer n : ℕ) (back should : A) : Type 0 wher
 -- a driver's step answers 5 exactly for a state out of range, and then names no cycle and hands back the state as it came
 pub record RefusesState (d : Driver) (back : Step) : Type 0 where
   pub only : back.answer ≡ BAD-STATE → in_range d ≡ false
-  pub beside : in_range d ≡ false → back ≡ step BAD-STATE d Nothing 0
+  pub beside : in_range d ≡ false → back ≡ step BAD-STATE d None 0
 
 -- so does a C controller's, for numbers that are no state in range, and hands back the numbers as they came
 pub record RefusesNumbers (n : DriverNumbers) (back : StepNumbers) : Type 0 where
@@ -56,14 +55,14 @@ pub record Demand1 : Type 0 where
       Refuses Started c.back.answer n c.back (record { answer = n; driver = no_driver })
   -- So does one that names the first write at once, and it names nothing.
   pub start-writing-refuses : (c : StartWritingCall) → let n = refused_start (to_start c.given) in
-      Refuses Step c.back.answer n c.back (step n no_driver Nothing 0)
+      Refuses Step c.back.answer n c.back (step n no_driver None 0)
   -- A step refuses with 5 only.
   pub step-refuses : (c : StepCall) → RefusesState (to_step c).driver c.back
   -- The state that a refused start hands back is answered with 5: no cycle is named, and the state handed back.
   pub refused-start-steps : (c : StartCall) → (refused_start (to_start c.given) ≡ 0 → ⊥)
-      → (e : StepCall) → (to_step e).driver ≡ c.back.driver → e.back ≡ step BAD-STATE c.back.driver Nothing 0
+      → (e : StepCall) → (to_step e).driver ≡ c.back.driver → e.back ≡ step BAD-STATE c.back.driver None 0
   pub refused-start-writing-steps : (c : StartWritingCall) → (refused_start (to_start c.given) ≡ 0 → ⊥)
-      → (e : StepCall) → (to_step e).driver ≡ c.back.driver → e.back ≡ step BAD-STATE c.back.driver Nothing 0
+      → (e : StepCall) → (to_step e).driver ≡ c.back.driver → e.back ≡ step BAD-STATE c.back.driver None 0
   -- A refused command's writes: its number, no write, and six places of zeros.
   pub writes-refuses : (c : WritesCall) → let n = refused_writes (to_write c) in
       Refuses Writes c.back.answer n c.back (writes n 0 [])

@@ -2,7 +2,7 @@
 -- change nothing; driven against the model it sends the job's one list and leaves what `load` leaves; and whatever is
 -- replied it ends after a stated number of cycles with 0, 11 or 12, so that a dead chip releases the socket in the middle
 -- of a job too.
-use Rattle.std.specs.Prelude.{ℕ, ◌≤◌, ◌≡◌, false, List, length, take}
+use Rattle.std.specs.Prelude.{ℕ, ◌≤◌, ◌≡◌, false, List, length, take, None}
 use Rattle.parts.specs.Names.{BAD-STATE}
 use Rattle.parts.specs.Table.{row_of}
 use Rattle.device.specs.Device.{fresh_device}
@@ -12,7 +12,6 @@ use Rattle.job.specs.declared.loader.Job.{Job}
 use Rattle.job.specs.declared.loading.Progress.TheVariants.{Waiting}
 use Rattle.job.specs.declared.loading.Loading.{Loading}
 use Rattle.job.specs.declared.loading.Begun.{Begun}
-use Rattle.job.specs.declared.loading.Sending.TheVariants.{SendsNothing}
 use Rattle.job.specs.Sent.{sent_of}
 use Rattle.job.specs.Bill.{job_from, report_of}
 use Rattle.job.specs.Loading.{loading, is_ending, loading_in_range, load_turn, LoadTurned, load_turned}
@@ -43,17 +42,17 @@ pub record Socket : Type 0 where
       Refuses Begun c.back.answer n c.back (record { answer = n; loading = zero_loading })
   -- which a turn answers with 5, whatever the image, the kept readings and the value read.
   pub zero-refused : (c : TurnCall) → let g = to_turn c in g.loading ≡ zero_loading
-      → turn_left c ≡ load_turned g.seen (load_turn BAD-STATE zero_loading SendsNothing)
+      → turn_left c ≡ load_turned g.seen (load_turn BAD-STATE zero_loading None)
   -- A begin that is not refused hands back the job, with no cycle named yet.
   pub begin-given : (c : BeginCall) → let g = to_begin c in refused_begin g ≡ 0
       → c.back ≡ record { answer = 0; loading = loading g.part g.first (length g.image) g.wp g.p Waiting }
   -- A turn answers 5 for a state that is out of range for its part and image (`loading_in_range`).
   pub out_of_range : (c : TurnCall) → let g = to_turn c in loading_in_range g.loading g.image ≡ false
-      → turn_left c ≡ load_turned g.seen (load_turn BAD-STATE g.loading SendsNothing)
+      → turn_left c ≡ load_turned g.seen (load_turn BAD-STATE g.loading None)
   -- A turn that refuses, with a number other than 0, 11 and 12, names no cycle, and hands back the state and the kept
   -- readings as they came.
   pub turn-refuses : (c : TurnCall) → let g = to_turn c in is_ending c.back.answer ≡ false
-      → turn_left c ≡ load_turned g.seen (load_turn c.back.answer g.loading SendsNothing)
+      → turn_left c ≡ load_turned g.seen (load_turn c.back.answer g.loading None)
   -- There is such a controller for every image.
   pub some-controller : (image : List ℕ) → Controller image
   -- A begun job, driven against the model from a fresh device and the part's number of cells (`load_talk`), whatever was kept

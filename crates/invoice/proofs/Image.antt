@@ -1,4 +1,5 @@
 -- After a job's cycles the range holds the image, no other cell has changed, and the chip is at rest.
+use Rattle.std.specs.Prelude.{Some, None}
 use Prim.Native.Nat.{ℕ, zero, suc, ◌+◌, ◌-◌, ◌*◌, ◌/◌, ◌%◌, ◌≤◌, ◌<◌}
 use mathlib.Core.Path.{◌≡◌, refl, sym, ap, ◌∙◌}
 use mathlib.Core.Bool.{Bool, true, false}
@@ -23,8 +24,7 @@ use Rattle.device.specs.Device.{rested}
 use Rattle.device.specs.Cycle.{cycle, Chip, chip}
 use Rattle.device.specs.Trace.{after, play}
 use Rattle.device.proofs.Idle.{fresh-idle}
-use Rattle.driver.specs.declared.machine.Next.{Next}
-use Rattle.driver.specs.declared.machine.Next.TheVariants.{Nothing, Send}
+use Rattle.driver.specs.Machine.{Next}
 use Rattle.driver.specs.declared.machine.Step.{Step}
 use Rattle.driver.specs.Refusals.{start_refusal}
 use Rattle.driver.specs.Writes.{writes_of, write_count}
@@ -53,8 +53,8 @@ abbrev Plays : ℕ → Bool → ℕ → Step → Chip → Type 0
 Plays part wp m t h = play part h (talk step_of part wp m t h).cycles ≡ (talk step_of part wp m t h).chip
 
 plays-on : (part : ℕ) (wp : Bool) (m : ℕ) → ((t : Step) (h : Chip) → Plays part wp m t h) → (t : Step) (h : Chip) (x : Next) → t.next ≡ x → Plays part wp (suc m) t h
-plays-on part wp m ih t h Nothing q = rw (talk-stops part wp m t h q)
-plays-on part wp m ih t h (Send e a) q = rw (talk-goes part wp m t h e a q) (ih (step_of t.driver (shows part h (cycle e wp a))) (after part h (cycle e wp a)))
+plays-on part wp m ih t h None q = rw (talk-stops part wp m t h q)
+plays-on part wp m ih t h (Some (e, a)) q = rw (talk-goes part wp m t h e a q) (ih (step_of t.driver (shows part h (cycle e wp a))) (after part h (cycle e wp a)))
 
 talk-plays : (part : ℕ) (wp : Bool) (m : ℕ) (t : Step) (h : Chip) → Plays part wp m t h
 unfolding talk

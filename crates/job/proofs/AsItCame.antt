@@ -1,4 +1,5 @@
 -- A refused turn changes nothing: the state and the values seen are handed back as they came, and no cycle is named.
+use Rattle.std.specs.Prelude.{None}
 use Prim.Native.Nat.{ℕ, ◌+◌, ◌≤◌, ◌<◌}
 use mathlib.Core.Path.{◌≡◌, refl, sym, ◌∙◌}
 use mathlib.Core.Bool.{Bool, true, false}
@@ -25,7 +26,6 @@ use Rattle.job.specs.declared.loader.Turn.TheVariants.{Play, Stop}
 use Rattle.job.specs.declared.loading.Progress.{Progress}
 use Rattle.job.specs.declared.loading.Progress.TheVariants.{Waiting, Within, Over}
 use Rattle.job.specs.declared.loading.Loading.{Loading}
-use Rattle.job.specs.declared.loading.Sending.TheVariants.{SendsNothing}
 use Rattle.values.specs.declared.search.Decision.{Decision}
 use Rattle.values.specs.declared.search.Decision.TheVariants.{NoErase, SectorErase}
 use Rattle.values.specs.Search.{decision_of}
@@ -42,7 +42,7 @@ use Rattle.job.proofs.InRange.{out_of_range}
 abbrev pub no_loading : Loading
 no_loading = loading 0 0 0 false 0 Waiting
 
-pub none-begun : (image seen : List ℕ) (read : ℕ) → load_turn_of no_loading image seen read ≡ load_turned seen (load_turn 5 no_loading SendsNothing)
+pub none-begun : (image seen : List ℕ) (read : ℕ) → load_turn_of no_loading image seen read ≡ load_turned seen (load_turn 5 no_loading None)
 unfolding standing_refusal part_refusal is_interval
 none-begun image seen read = out_of_range no_loading image seen read (λ e. omega (arith, e))
 
@@ -81,7 +81,7 @@ module _ (g : Loading) (S : Standing g.part g.first g.count g.wp g.p) (image : L
 
   -- ---- as it came, unless it goes on or ends
   abbrev Same : List ℕ → LoadTurned → Type 0
-  Same seen t = is_ending t.turn.answer ≡ false → t ≡ load_turned seen (load_turn t.turn.answer g SendsNothing)
+  Same seen t = is_ending t.turn.answer ≡ false → t ≡ load_turned seen (load_turn t.turn.answer g None)
 
   goes_same : (seen seen' : List ℕ) (t : Turn) → Goes t → Same seen (load_turned seen' (taken g t))
   unfolding is_ending
@@ -92,7 +92,7 @@ module _ (g : Loading) (S : Standing g.part g.first g.count g.wp g.p) (image : L
   unfolding stops_with
   stop-same seen n = by (is_ending n) refl
     where
-      by : (b : Bool) → is_ending n ≡ b → Same seen (load_turned seen (pick b (load_turn n (loading g.part g.first g.count g.wp g.p (Over n)) SendsNothing) (load_turn n g SendsNothing)))
+      by : (b : Bool) → is_ending n ≡ b → Same seen (load_turned seen (pick b (load_turn n (loading g.part g.first g.count g.wp g.p (Over n)) None) (load_turn n g None)))
       by true e f = apart (sym f ∙ e)
       by false e f = refl
 
@@ -118,13 +118,13 @@ module _ (g : Loading) (S : Standing g.part g.first g.count g.wp g.p) (image : L
 
 -- A refusal, that is a number other than 0, 11 and 12, is given by a turn that hands back everything as it came.
 pub as-it-came : (g : Loading) (image seen : List ℕ) (read : ℕ) → is_ending (load_turn_of g image seen read).turn.answer ≡ false
-    → load_turn_of g image seen read ≡ load_turned seen (load_turn (load_turn_of g image seen read).turn.answer g SendsNothing)
+    → load_turn_of g image seen read ≡ load_turned seen (load_turn (load_turn_of g image seen read).turn.answer g None)
 unfolding load_turn_of loading_in_range
 as-it-came g image seen read = by (loading_in_range g image) refl
   where
     by : (b : Bool) → loading_in_range g image ≡ b
-        → let t = pick b (progress_of g (job_in g) image seen g.progress read) (load_turned seen (load_turn 5 g SendsNothing)) in
-        is_ending t.turn.answer ≡ false → t ≡ load_turned seen (load_turn t.turn.answer g SendsNothing)
+        → let t = pick b (progress_of g (job_in g) image seen g.progress read) (load_turned seen (load_turn 5 g None)) in
+        is_ending t.turn.answer ≡ false → t ≡ load_turned seen (load_turn t.turn.answer g None)
     by true e =
         let a = both (eqb (standing_refusal g.part g.first g.count g.wp g.p) 0) _ e in
         let s = standing g.part g.first g.count g.wp g.p (eqb-true _ 0 a.0) in

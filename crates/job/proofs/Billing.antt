@@ -3,15 +3,14 @@ use Prim.Native.Nat.{ℕ, zero, suc, ◌+◌, ◌*◌, ◌/◌, ◌≤◌}
 use mathlib.Core.Path.{◌≡◌, refl, sym, ap, ap₂, ◌∙◌}
 use mathlib.Core.Bool.{Bool}
 use mathlib.Core.List.{List}
-use native.Mathlib.Nat.{div-le_self, le_refl, mul-le-mul}
+use native.Mathlib.Nat.{div-le_self, mul-le-mul}
 use native.Mathlib.Omega.{arith}
-use borrow.Author.Tests.{ltb-true, ltb-false}
-use lib.Dec.{ltb}
 use lib.ListN.{length, take, drop}
 use lib.Seq.{take_all}
+use Rattle.std.specs.Prelude.{min}
+use Rattle.std.proofs.lemmas.List.{take_min}
 use Rattle.parts.specs.Table.{row_of}
 use Rattle.parts.specs.Time.{time_of}
-use Rattle.parts.proofs.Every.{split}
 use Rattle.parts.proofs.Sound.{width-most, cells-most, time-most}
 use Rattle.parts.proofs.Ranges.{sector-some}
 use Rattle.driver.specs.Machine.{confirm_after}
@@ -27,7 +26,7 @@ use Rattle.request.specs.Refusal.{job_refusal}
 use Rattle.job.specs.Run.{World, world, none_sent, play_of, run_from, stop_from, run_end}
 use Rattle.job.specs.Sent.{sent_of}
 use Rattle.job.specs.Formulas.{N, operation_time}
-use Rattle.job.specs.Bill.{FullTimeFits, job_from, first_few, bill_of, billed, reported, played, played_all, report_of, load_of}
+use Rattle.job.specs.Bill.{FullTimeFits, job_from, bill_of, billed, reported, played, played_all, report_of, load_of}
 use Rattle.job.proofs.Accepts.{Passed, passed, sector-most}
 use Rattle.job.proofs.Runs.{runs, never-stops-short}
 use Rattle.job.proofs.Counts.{length_most}
@@ -54,9 +53,6 @@ module _ (j : Job) (t : FullTimeFits j) where
 
   pub programs-fit : j.count * operation_time j 0 ≤ 4194304 * 150000000
   programs-fit = mul-le-mul t.count (operation-few 0 (omega arith))
-
-pub few-most : (k : ℕ) → first_few k ≤ 2147483648
-few-most k = split (λ (n : ℕ). n ≤ 2147483648) (ltb 2147483648 k) 2147483648 k (λ _. le_refl 2147483648) (λ l. ltb-false 2147483648 k l)
 
 -- ---- a job that is not refused
 module _ (part first : ℕ) (image cells : List ℕ) (wp : Bool) (p : ℕ) (z : job_refusal part (length cells) first image wp p ≡ 0) where
@@ -98,21 +94,24 @@ module _ (part first : ℕ) (image cells : List ℕ) (wp : Bool) (p : ℕ) (z : 
 
   -- k cycles, or as many as the limit allows
   module _ (few : length (sent_of j image cells) ≤ 2147483648) where
-    take-few : (k : ℕ) → take (first_few k) (sent_of j image cells) ≡ take k (sent_of j image cells)
+    take-few : (k : ℕ) → take (min k 2147483648) (sent_of j image cells) ≡ take k (sent_of j image cells)
     take-few k =
-        split (λ (n : ℕ). take n (sent_of j image cells) ≡ take k (sent_of j image cells)) (ltb 2147483648 k) 2147483648 k
-        (λ l. take_all 2147483648 (sent_of j image cells) few ∙ sym (take_all k (sent_of j image cells) (omega (arith, ltb-true 2147483648 k l)))) (λ _. refl)
+        let ss = sent_of j image cells in
+        sym (take_min (min k 2147483648) ss) ∙ (ap (λ (n : ℕ). take n ss) (shorter (length ss) few) ∙ take_min k ss)
+      where
+        shorter : (n : ℕ) → n ≤ 2147483648 → min (min k 2147483648) n ≡ min k n
+        shorter n h = omega arith
 
-    pub few-played : (k : ℕ) → run_from j image cells (first_few k) ≡ played part cells first image wp p k
-    few-played k = runs-first (first_few k) ∙ ap (play_of part (world cells none_sent)) (take-few k)
+    pub few-played : (k : ℕ) → run_from j image cells (min k 2147483648) ≡ played part cells first image wp p k
+    few-played k = runs-first (min k 2147483648) ∙ ap (play_of part (world cells none_sent)) (take-few k)
 
-    pub reports : (k : ℕ) (e : RunEnd) (cells' : List ℕ) (r : Report) → e ≡ run_end (run_from j image cells (first_few k)).held (stop_from j image cells (first_few k))
-        → cells' ≡ (run_from j image cells (first_few k)).cells → r ≡ reported e.held e.answer
+    pub reports : (k : ℕ) (e : RunEnd) (cells' : List ℕ) (r : Report) → e ≡ run_end (run_from j image cells (min k 2147483648)).held (stop_from j image cells (min k 2147483648))
+        → cells' ≡ (run_from j image cells (min k 2147483648)).cells → r ≡ reported e.held e.answer
         → (r ≡ (report_of part cells first image wp p k).report) × (cells' ≡ (report_of part cells first image wp p k).cells)
     unfolding report_of
     reports k e cells' r qe qc qr =
         let h : e.held ≡ (played part cells first image wp p k).held = ap (λ (e : RunEnd). e.held) qe ∙ ap (λ (w : World). w.held) (few-played k) in
-        let n : e.answer ≡ 0 = ap (λ (e : RunEnd). e.answer) qe ∙ never-short (first_few k) in
+        let n : e.answer ≡ 0 = ap (λ (e : RunEnd). e.answer) qe ∙ never-short (min k 2147483648) in
         rw z
         (qr ∙ ap₂ {A = Held} {B = ℕ} {C = Report} reported h n, qc ∙ ap (λ (w : World). w.cells) (few-played k))
 

@@ -1,4 +1,5 @@
 -- Whatever is replied, a turn of a loader in range names a cycle that leaves it in range and nearer to its end, or it ends with 0, 11 or 12.
+use Rattle.std.specs.Prelude.{Some, None}
 use Prim.Native.Nat.{ℕ, suc, ◌+◌, ◌-◌, ◌*◌, ◌/◌, ◌%◌, ◌≤◌, ◌<◌}
 use mathlib.Core.Path.{◌≡◌, refl, sym, ap, ◌∙◌}
 use mathlib.Core.Bool.{Bool, true, false}
@@ -18,8 +19,7 @@ use Rattle.device.specs.declared.cycle.Cycle.{Cycle}
 use Rattle.driver.specs.declared.machine.Phase.{Phase}
 use Rattle.driver.specs.declared.machine.Phase.TheVariants.{Writing, Polling, Confirming, Done, GaveUp, Differs}
 use Rattle.driver.specs.declared.machine.Driver.{Driver}
-use Rattle.driver.specs.declared.machine.Next.{Next}
-use Rattle.driver.specs.declared.machine.Next.TheVariants.{Nothing, Send}
+use Rattle.driver.specs.Machine.{Next}
 use Rattle.driver.specs.declared.machine.Step.{Step}
 use Rattle.driver.specs.Refusals.{start_refusal}
 use Rattle.driver.specs.Writes.{write_count}
@@ -195,19 +195,19 @@ module _ (j : Job) (image : List ℕ) (R : AcceptedJob j image) where
           by Filling b c = rw (b, c) (reads (base + i) (omega arith))
           by Burning b c = rw (b, c) (reads (base + i) (omega arith))
 
-      names-allowed : (d : Driver) (read e : ℕ) (a : Action) → same_asked d (asked_for j image task base i) ≡ true → (step_of d read).next ≡ Send e a → Allowed j image a
+      names-allowed : (d : Driver) (read e : ℕ) (a : Action) → same_asked d (asked_for j image task base i) ≡ true → (step_of d read).next ≡ Some (e, a) → Allowed j image a
       names-allowed d read e a h q = go (step_of d read) (way d read) q
         where
           s : Alike d (asked_for j image task base i)
           s = alike d (asked_for j image task base i) h
 
-          none : Nothing ≡ Send e a → Allowed j image a
+          none : None ≡ Some (e, a) → Allowed j image a
           none f = let z : ◌≡◌ {A = ℕ} 0 1 = cc in absurd (omega arith)
 
-          is : (m : ℕ) (b : Action) → Send m b ≡ Send e a → Allowed j image b → Allowed j image a
+          is : (m : ℕ) (b : Action) → Some (m, b) ≡ Some (e, a) → Allowed j image b → Allowed j image a
           is m b f k = let g : b ≡ a = cc in rw (sym g) k
 
-          go : (t : Step) → Way d t → t.next ≡ Send e a → Allowed j image a
+          go : (t : Step) → Way d t → t.next ≡ Some (e, a) → Allowed j image a
           go t (refused f) n = none n
           go t (writes f l) n = is 0 (write_next d) n (writes-allowed d s (omega arith))
           go t (wrote f l) n = is 0 (write_next d) n (writes-allowed d s (omega arith))
@@ -216,20 +216,20 @@ module _ (j : Job) (image : List ℕ) (R : AcceptedJob j image) where
           go t (ends f i z c m) n = none n
 
       -- the cycle that its driver names
-      goes-fine : (d : Driver) (read e : ℕ) (a : Action) → in_range d ≡ true → same_asked d (asked_for j image task base i) ≡ true → (step_of d read).next ≡ Send e a
+      goes-fine : (d : Driver) (read e : ℕ) (a : Action) → in_range d ≡ true → same_asked d (asked_for j image task base i) ≡ true → (step_of d read).next ≡ Some (e, a)
           → Fine (left d + onward) (goes_on j task base i (step_of d read).driver e a)
       goes-fine d read e a v s q =
           let u = (step_of d read).driver in
           let o = asked_for j image task base i in
           let w : same_asked u o ≡ true = ap (λ (u : Driver). same_asked u o) (asks-on d read) ∙ (moved-asks d _ _ o ∙ s) in
-          let f : left_from (Send e a) u ≤ left d = rw q at (falls d read) in
+          let f : left_from (Some (e, a)) u ≤ left d = rw q at (falls d read) in
           (in_order (Driving task u) base i inside aligned there w (keeps d read v), (omega (arith, f), (refl, names-allowed d read e a s q)))
 
       -- its first step
       first_fine : (d : Driver) (x : Next) → (step_of d 0).next ≡ x → in_range d ≡ true → same_asked d (asked_for j image task base i) ≡ true
           → Fine (left d + onward) (first_step j task base i (step_of d 0))
-      first_fine d Nothing q v s = rw (q, answers d 0 v) (ending-is (step_of d 0).driver.phase)
-      first_fine d (Send e a) q v s = rw q (goes-fine d 0 e a v s q)
+      first_fine d None q v s = rw (q, answers d 0 v) (ending-is (step_of d 0).driver.phase)
+      first_fine d (Some (e, a)) q v s = rw q (goes-fine d 0 e a v s q)
 
       begin-fine : (command x : ℕ) → start_refusal j.part command (place_of j base i) x j.p ≡ 0
           → same_asked (begun j.part command (place_of j base i) x j.p) (asked_for j image task base i) ≡ true
@@ -311,11 +311,11 @@ module _ (j : Job) (image : List ℕ) (R : AcceptedJob j image) where
     driven-fine : (task : Task) (i : ℕ) (d : Driver) (read : ℕ) (x : Next) → (step_of d read).next ≡ x → i < j.size → in_range d ≡ true → same_asked d (asked_for j image task base i) ≡ true
         → Fine (left d + task_left task i + beyond) (driven_of j image task base i (step_of d read))
     unfolding driven_of
-    driven-fine task i d read Nothing q h v s =
+    driven-fine task i d read None q h v s =
         rw q
         (split (Fine (left d + task_left task i + beyond)) (eqb (step_of d read).answer 0) (afterwards j image task base i) (Stop (step_of d read).answer)
         (λ _. fine_more _ _ (afterwards j image task base i) (omega arith) (after-fine task i h)) (λ _. rw (answers d read v) (ending-is (step_of d read).driver.phase)))
-    driven-fine task i d read (Send e a) q h v s =
+    driven-fine task i d read (Some (e, a)) q h v s =
         rw q (fine_more _ _ (goes_on j task base i (step_of d read).driver e a) (omega arith) (goes-fine task i h d read e a v s q))
 
     stage-fine : (s : Stage) (i : ℕ) (seen : List ℕ) (read : ℕ) → i < j.size → stage_in_range j image s base i ≡ true → Drives s

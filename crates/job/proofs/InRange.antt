@@ -1,4 +1,5 @@
 -- The states of the exported loader: in range, or a turn answers them with 5.
+use Rattle.std.specs.Prelude.{None}
 use Prim.Native.Nat.{ℕ, ◌≤◌}
 use mathlib.Core.Path.{◌≡◌, ap, ◌∙◌}
 use mathlib.Core.Bool.{Bool, true, false}
@@ -7,8 +8,7 @@ use native.Mathlib.Omega.{arith}
 use borrow.Author.Tests.{eq-eqb, ne_eqb, eqb-true}
 use lib.Dec.{eqb}
 use lib.ListN.{length}
-use Rattle.parts.specs.Table.{row_of, found_of}
-use Rattle.parts.specs.Table.{Found}
+use Rattle.parts.specs.Table.{row_of}
 use Rattle.parts.proofs.Every.{both}
 use Rattle.parts.proofs.Sound.{width-most, cells-most}
 use Rattle.parts.proofs.Ranges.{sector-some}
@@ -16,7 +16,6 @@ use Rattle.driver.specs.declared.machine.Driver.{Driver}
 use Rattle.job.specs.declared.loader.Job.{Job}
 use Rattle.job.specs.declared.loading.Progress.{Progress}
 use Rattle.job.specs.declared.loading.Loading.{Loading}
-use Rattle.job.specs.declared.loading.Sending.TheVariants.{SendsNothing}
 use Rattle.job.specs.Fits.{JobFits}
 use Rattle.request.specs.Refusal.{begin_refusal, standing_on, standing_refusal}
 use Rattle.request.proofs.Accepts.{standing, none-stands}
@@ -53,7 +52,7 @@ alike d e h =
 
 -- ---- a turn, by how far the job is
 module _ (g : Loading) (j : Job) (image seen : List ℕ) (read : ℕ) where
-  pub out-of-progress : progress_in_range j image g.progress ≡ false → job_turn g j image seen read ≡ load_turned seen (load_turn 5 g SendsNothing)
+  pub out-of-progress : progress_in_range j image g.progress ≡ false → job_turn g j image seen read ≡ load_turned seen (load_turn 5 g None)
   unfolding job_turn
   out-of-progress f = rw f
 
@@ -61,26 +60,17 @@ module _ (g : Loading) (j : Job) (image seen : List ℕ) (read : ℕ) where
   unfolding job_turn
   goes_by x e t = rw t (ap (λ (x : Progress). progress_of g j image seen x read) e)
 
--- ---- what is found on a part that was looked up is the part's
-module _ (f : Found) (part first count : ℕ) (wp : Bool) (p : ℕ) (found : f ≡ found_of part) where
-  pub standing-found : {n : ℕ} → n ≡ standing_on f first count wp p → n ≡ standing_refusal part first count wp p
-  unfolding standing_refusal
-  standing-found e = e ∙ ap (λ (f : Found). standing_on f first count wp p) found
-
-  pub job-found : {j : Job} → j ≡ job_on f.row part first count wp p → j ≡ job_from part first count wp p
-  job-found e = e ∙ ap (λ (f : Found). job_on f.row part first count wp p) found
-
 -- ---- a turn, by what was asked
 module _ (g : Loading) (image : List ℕ) where
   abbrev refused : ℕ
   refused = standing_refusal g.part g.first g.count g.wp g.p
 
   module _ (seen : List ℕ) (read : ℕ) where
-    pub out_of_range : (refused ≡ 0 → ⊥) → load_turn_of g image seen read ≡ load_turned seen (load_turn 5 g SendsNothing)
+    pub out_of_range : (refused ≡ 0 → ⊥) → load_turn_of g image seen read ≡ load_turned seen (load_turn 5 g None)
     unfolding load_turn_of loading_in_range
     out_of_range n = simp (ne_eqb refused 0 n)
 
-    pub other-image : refused ≡ 0 → (g.count ≡ length image → ⊥) → load_turn_of g image seen read ≡ load_turned seen (load_turn 5 g SendsNothing)
+    pub other-image : refused ≡ 0 → (g.count ≡ length image → ⊥) → load_turn_of g image seen read ≡ load_turned seen (load_turn 5 g None)
     unfolding load_turn_of loading_in_range
     other-image z n = simp (z, ne_eqb g.count (length image) n)
 

@@ -1,4 +1,5 @@
 -- The exported loader on a bus, once begun: against the model of the chip it sends the one list and leaves what the job leaves; against any replies it ends.
+use Rattle.std.specs.Prelude.{None}
 use Prim.Native.Nat.{ℕ, zero, suc, zero-le, suc-le-suc, ◌+◌, ◌-◌, ◌*◌, ◌/◌, ◌≤◌}
 use mathlib.Core.Path.{◌≡◌, refl, sym, ap, ◌∙◌}
 use mathlib.Core.Bool.{Bool, true}
@@ -24,7 +25,6 @@ use Rattle.job.specs.declared.loader.Turn.TheVariants.{Play, Stop}
 use Rattle.job.specs.declared.loading.Progress.{Progress}
 use Rattle.job.specs.declared.loading.Progress.TheVariants.{Waiting, Within, Over}
 use Rattle.job.specs.declared.loading.Loading.{Loading}
-use Rattle.job.specs.declared.loading.Sending.TheVariants.{SendsNothing}
 use Rattle.request.specs.Refusal.{begin_refusal}
 use Rattle.request.proofs.Accepts.{none-stands, not-refused}
 use Rattle.job.specs.Loader.{Turned, turned, next_sector, turn_of}
@@ -58,7 +58,7 @@ module _ (part first : ℕ) (image : List ℕ) (wp : Bool) (p : ℕ) (begun : be
       ∙ (turns-job (state x) image seen read (none-stands part first image wp p begun).0 refl ∙ goes_by (state x) j image seen read x refl h)
 
   -- the end is the same from every state of the job
-  stops : (x : Progress) (n : ℕ) → is_ending n ≡ true → stops_with (state x) n ≡ load_turn n (state (Over n)) SendsNothing
+  stops : (x : Progress) (n : ℕ) → is_ending n ≡ true → stops_with (state x) n ≡ load_turn n (state (Over n)) None
   unfolding stops_with
   stops x n e = rw e
 
@@ -82,14 +82,14 @@ module _ (part first : ℕ) (image : List ℕ) (wp : Bool) (p : ℕ) (begun : be
       in-range (Within l) seen read s.range
       ∙ ap (load_turned (turn_of j image seen l read).seen) (same (Within l) (loader_left j image R l) (turn_of j image seen l read).turn (turn-fine j image R l seen read s))
 
-  last_turn : (n : ℕ) (seen : List ℕ) (read : ℕ) → is_ending n ≡ true → T (state (Over n)) seen read ≡ load_turned seen (load_turn n (state (Over n)) SendsNothing)
+  last_turn : (n : ℕ) (seen : List ℕ) (read : ℕ) → is_ending n ≡ true → T (state (Over n)) seen read ≡ load_turned seen (load_turn n (state (Over n)) None)
   last_turn n seen read e = in-range (Over n) seen read e ∙ ap (load_turned seen) (stops (Over n) n e)
 
   -- ---- against any replies
   pub record Closed (m n : ℕ) (h : LoadHeard) : Type 0 where
     pub few : length h.sent ≤ m
     pub allowed : AllAllowed j image h.sent
-    pub names-nothing : m ≤ n → h.last.turn.next ≡ SendsNothing
+    pub names-nothing : m ≤ n → h.last.turn.next ≡ None
     pub numbered : m ≤ n → is_ending h.last.turn.answer ≡ true
     pub repeated : m ≤ n → (seen : List ℕ) (read : ℕ) → T h.last.turn.loading seen read ≡ load_turned seen h.last.turn
 

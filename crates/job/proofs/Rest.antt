@@ -1,4 +1,5 @@
 -- "The rest": from a turn on, the cycles that the loader has yet to send are a list. An operation's are what its driver names.
+use Rattle.std.specs.Prelude.{Some, None}
 use Prim.Native.Nat.{ℕ, zero, suc, ◌+◌, ◌<◌, ◌≤◌}
 use mathlib.Core.Path.{◌≡◌, refl, ap, ◌∙◌}
 use mathlib.Core.List.{List, [], ◌∷◌, ◌++◌}
@@ -11,8 +12,7 @@ use Rattle.device.specs.Cycle.{cycle, Chip, chip}
 use Rattle.device.specs.Trace.{after}
 use Rattle.driver.specs.declared.machine.Phase.{Phase}
 use Rattle.driver.specs.declared.machine.Driver.{Driver}
-use Rattle.driver.specs.declared.machine.Next.{Next}
-use Rattle.driver.specs.declared.machine.Next.TheVariants.{Nothing, Send}
+use Rattle.driver.specs.Machine.{Next}
 use Rattle.driver.specs.declared.machine.Step.{Step}
 use Rattle.driver.specs.Machine.{step_of}
 use Rattle.driver.specs.Talk.{Told, talk}
@@ -106,18 +106,18 @@ module _ (j : Job) (image : List ℕ) where
 
     abbrev Goes : ℕ → Step → World → List Sent → Type 0
     Goes m t w L =
-        (talking m t w).last.next ≡ Nothing → (talking m t w).last.answer ≡ 0
+        (talking m t w).last.next ≡ None → (talking m t w).last.answer ≡ 0
         → ((w' : World) → chip_of w' ≡ (talking m t w).chip → Rest (turned seen (afterwards j image task base i)) w' L)
         → Rest (turned seen (driven_of j image task base i t)) w (saying m t w ++ L)
 
     -- nothing named: what follows
-    ends : (t : Step) (w : World) (L : List Sent) → t.next ≡ Nothing → t.answer ≡ 0 → Rest (turned seen (afterwards j image task base i)) w L
+    ends : (t : Step) (w : World) (L : List Sent) → t.next ≡ None → t.answer ≡ 0 → Rest (turned seen (afterwards j image task base i)) w L
         → Rest (turned seen (driven_of j image task base i t)) w L
     unfolding driven_of
     ends t w L e z h = rw (e, eq-eqb t.answer 0 z) h
 
     -- a cycle named
-    goes : (t : Step) (e : ℕ) (a : Action) → t.next ≡ Send e a → t.driver.command ≡ command
+    goes : (t : Step) (e : ℕ) (a : Action) → t.next ≡ Some (e, a) → t.driver.command ≡ command
         → driven_of j image task base i t ≡ Play (loader (Driving task t.driver) base i) (purpose_of command t.driver.phase a) (cycle e j.wp a)
     unfolding driven_of
     goes t e a q c = rw (q, c)
@@ -125,10 +125,10 @@ module _ (j : Job) (image : List ℕ) where
     turning : (m : ℕ) → ((t : Step) (w : World) (L : List Sent) → t.driver.command ≡ command → Goes m t w L)
         → (t : Step) (w : World) (L : List Sent) → t.driver.command ≡ command → (x : Next) → t.next ≡ x → Goes (suc m) t w L
     unfolding send_of after
-    turning m ih t w L k Nothing q e z h =
+    turning m ih t w L k None q e z h =
         let u = talk-stops j.part j.wp m t (chip_of w) q in
         rw (spoken-stops Sent (as_sent j command) j.part j.wp m t (chip_of w) q) (ends t w L q (rw u at z) ((rw u at h) w refl))
-    turning m ih t w L k (Send f a) q e z h =
+    turning m ih t w L k (Some (f, a)) q e z h =
         let c = cycle f j.wp a in
         let u = talk-goes j.part j.wp m t (chip_of w) f a q in
         let p = purpose_of command t.driver.phase a in

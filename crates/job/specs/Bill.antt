@@ -100,10 +100,6 @@ load_of part cells first image wp p =
     (record { cells = cells; bill = refused_bill (job_refusal part (length cells) first image wp p) })
 
 -- ---- inside the crate
--- as many cycles as any job sends, or fewer
-abbrev pub first_few : ℕ → ℕ
-first_few k = pick (ltb MOST-CYCLES k) MOST-CYCLES k
-
 -- the numbers of a job that its full time needs
 pub record FullTimeFits (j : Job) : Type 0 where
   pub some : 0 < j.size

@@ -1,5 +1,5 @@
 -- The loader, step by step: what follows from the value last read.
-use Rattle.std.specs.Prelude.{ℕ, ◌+◌, ◌-◌, Bool, true, false, List, eqb, ltb, leb, get_or, set, take, drop}
+use Rattle.std.specs.Prelude.{ℕ, ◌+◌, ◌-◌, Bool, true, false, List, eqb, ltb, leb, get_or, set, take, drop, Some, None}
 use Rattle.parts.specs.Names.{BAD-STATE, PROGRAM, SECTOR}
 use Rattle.parts.specs.Pick.{pick}
 use Rattle.parts.specs.Width.{value_of, blank_of}
@@ -9,7 +9,6 @@ use Rattle.device.specs.Cycle.{cycle}
 use Rattle.driver.specs.declared.machine.Phase.{Phase}
 use Rattle.driver.specs.declared.machine.Phase.TheVariants.{Writing, Polling, Confirming, Done, GaveUp, Differs}
 use Rattle.driver.specs.declared.machine.Driver.{Driver}
-use Rattle.driver.specs.declared.machine.Next.TheVariants.{Nothing, Send}
 use Rattle.driver.specs.declared.machine.Step.{Step}
 use Rattle.driver.specs.Machine.{step_of, start_writing}
 use Rattle.job.specs.declared.loader.Job.{Job}
@@ -68,7 +67,7 @@ goes_on j t base i d e a = Play (loader (Driving t d) base i) (purpose_of d.comm
 
 -- a driver's first step: its cycle, or the refusal of its start
 abbrev pub first_step : Job → Task → ℕ → ℕ → Step → Turn
-first_step j t base i s = elim s.next [ Nothing ↦ Stop s.answer | Send e a ↦ goes_on j t base i s.driver e a ]
+first_step j t base i s = elim s.next [ None ↦ Stop s.answer | Some (e, a) ↦ goes_on j t base i s.driver e a ]
 
 -- an operation at a cell of a sector begins with its first write
 unfoldable pub begin_of : Job → Task → ℕ → ℕ → ℕ → ℕ → Turn
@@ -109,8 +108,8 @@ afterwards j image Burning base i = look_of j base (i + 1)
 unfoldable pub driven_of : Job → List ℕ → Task → ℕ → ℕ → Step → Turn
 driven_of j image t base i s =
     elim s.next [
-      | Nothing ↦ pick (eqb s.answer 0) (afterwards j image t base i) (Stop s.answer)
-      | Send e a ↦ goes_on j t base i s.driver e a
+      | None ↦ pick (eqb s.answer 0) (afterwards j image t base i) (Stop s.answer)
+      | Some (e, a) ↦ goes_on j t base i s.driver e a
     ]
 
 -- ---- a step

@@ -1,5 +1,5 @@
 -- The loader for a real socket: begun once, and then turn by turn given the value last read.
-use Rattle.std.specs.Prelude.{ℕ, ◌+◌, ◌%◌, Bool, true, false, List, eqb, length, get_or}
+use Rattle.std.specs.Prelude.{ℕ, ◌+◌, ◌%◌, Bool, true, false, Option, List, eqb, length, get_or, Some, None}
 use Rattle.parts.specs.Names.{PROGRAM, SECTOR, BAD-STATE, GAVE-UP, DIFFERS}
 use Rattle.parts.specs.Pick.{pick}
 use Rattle.driver.specs.declared.machine.Phase.TheVariants.{Writing}
@@ -17,8 +17,8 @@ use Rattle.job.specs.declared.loading.Progress.{Progress}
 use Rattle.job.specs.declared.loading.Progress.TheVariants.{Waiting, Within, Over}
 use Rattle.job.specs.declared.loading.Loading.{Loading}
 use Rattle.job.specs.declared.loading.Begun.{Begun}
-use Rattle.job.specs.declared.loading.Sending.{Sending}
-use Rattle.job.specs.declared.loading.Sending.TheVariants.{SendsNothing, Sends}
+use Rattle.job.specs.declared.loader.Purpose.{Purpose}
+use Rattle.device.specs.declared.cycle.Cycle.{Cycle}
 use Rattle.job.specs.declared.loading.LoadTurn.{LoadTurn}
 use Rattle.request.specs.Refusal.{begin_refusal, standing_refusal}
 use Rattle.job.specs.Loader.{Turned, place_of, next_sector, in_job, turn_of}
@@ -86,16 +86,20 @@ loading_in_range g image =
 abbrev pub moved_to : Loading → Progress → Loading
 moved_to g x = loading g.part g.first g.count g.wp g.p x
 
+-- what a turn names: no cycle, or the next one and why it is sent
+abbrev pub Sending : Type 0
+Sending = Option (Purpose × Cycle)
+
 abbrev pub load_turn : ℕ → Loading → Sending → LoadTurn
 load_turn n g x = record { answer = n; loading = g; next = x }
 
 -- the end with its number, which is repeated from then on; an operation's start that is refused hands the state back as it came
 unfoldable pub stops_with : Loading → ℕ → LoadTurn
-stops_with g n = pick (is_ending n) (load_turn n (moved_to g (Over n)) SendsNothing) (load_turn n g SendsNothing)
+stops_with g n = pick (is_ending n) (load_turn n (moved_to g (Over n)) None) (load_turn n g None)
 
 -- what the loader's turn comes to
 abbrev pub taken : Loading → Turn → LoadTurn
-taken g (Play l p c) = load_turn 0 (moved_to g (Within l)) (Sends p c)
+taken g (Play l p c) = load_turn 0 (moved_to g (Within l)) (Some (p, c))
 taken g (Stop n) = stops_with g n
 
 -- the values seen, and the turn
@@ -123,10 +127,10 @@ progress_of g j image seen (Over n) read = load_turned seen (stops_with g n)
 unfoldable pub load_turn_of : Loading → List ℕ → List ℕ → ℕ → LoadTurned
 load_turn_of g image seen read =
     pick (loading_in_range g image) (progress_of g (job_in g) image seen g.progress read)
-    (load_turned seen (load_turn BAD-STATE g SendsNothing))
+    (load_turned seen (load_turn BAD-STATE g None))
 
 -- ---- inside the crate: the turn of a state whose job is in range
 unfoldable pub job_turn : Loading → Job → List ℕ → List ℕ → ℕ → LoadTurned
 job_turn g j image seen read =
     pick (progress_in_range j image g.progress) (progress_of g j image seen g.progress read)
-    (load_turned seen (load_turn BAD-STATE g SendsNothing))
+    (load_turned seen (load_turn BAD-STATE g None))

@@ -1,6 +1,6 @@
 -- The exported loader on a bus: against the model of the chip, and against any replies. T is what a turn hands back, of a state, the values seen and the value
 -- last read.
-use Rattle.std.specs.Prelude.{ℕ, zero, suc, ◌+◌, ◌*◌, ◌/◌, ◌%◌, ◌≤◌, ◌<◌, ◌≡◌, Bool, true, List, [], ◌∷◌, length, get_or}
+use Rattle.std.specs.Prelude.{ℕ, zero, suc, ◌+◌, ◌*◌, ◌/◌, ◌%◌, ◌≤◌, ◌<◌, ◌≡◌, Bool, true, List, [], ◌∷◌, length, get_or, Some, None}
 use Rattle.parts.specs.Names.{PROGRAM, SECTOR}
 use Rattle.parts.specs.Table.{row_of}
 use Rattle.parts.specs.Time.{polls_of}
@@ -14,7 +14,6 @@ use Rattle.driver.specs.Talk.{shows}
 use Rattle.job.specs.declared.loader.Job.{Job}
 use Rattle.job.specs.declared.loading.Progress.TheVariants.{Over}
 use Rattle.job.specs.declared.loading.Loading.{Loading}
-use Rattle.job.specs.declared.loading.Sending.TheVariants.{SendsNothing, Sends}
 use Rattle.job.specs.Run.{Sent, sent}
 use Rattle.job.specs.Sent.{sent_of}
 use Rattle.job.specs.Bill.{job_from, load_of}
@@ -39,15 +38,15 @@ unfoldable pub load_talk : (Loading → List ℕ → ℕ → LoadTurned) → ℕ
 load_talk T part zero t h = load_told [] h t
 load_talk T part (suc n) t h =
     elim t.turn.next [
-      | SendsNothing ↦ load_told [] h t
-      | Sends p c ↦ told_after (sent p c) (load_talk T part n (T t.turn.loading t.seen (shows part h c)) (after part h c))
+      | None ↦ load_told [] h t
+      | Some (p, c) ↦ told_after (sent p c) (load_talk T part n (T t.turn.loading t.seen (shows part h c)) (after part h c))
     ]
 
 -- on the part's number of cells and a fresh device it has sent the one list, left the cells that the job leaves, and ended with 0
 pub record HasLoaded (part : ℕ) (cells : List ℕ) (first : ℕ) (image : List ℕ) (wp : Bool) (p : ℕ) (t : LoadTold) : Type 0 where
   pub sends : t.sent ≡ sent_of (job_from part first (length image) wp p) image cells
   pub leaves : t.chip.cells ≡ (load_of part cells first image wp p).cells
-  pub ends : t.last.turn ≡ load_turn 0 (loading part first (length image) wp p (Over 0)) SendsNothing
+  pub ends : t.last.turn ≡ load_turn 0 (loading part first (length image) wp p (Over 0)) None
 
 -- ---- against any replies
 pub record LoadHeard : Type 0 where
@@ -66,8 +65,8 @@ unfoldable pub load_heard : (Loading → List ℕ → ℕ → LoadTurned) → (�
 load_heard T f zero t = load_heard_of [] t
 load_heard T f (suc n) t =
     elim t.turn.next [
-      | SendsNothing ↦ load_heard_of [] t
-      | Sends p c ↦ heard_after (sent p c) (load_heard T (λ i. f (suc i)) n (T t.turn.loading t.seen (f 0)))
+      | None ↦ load_heard_of [] t
+      | Some (p, c) ↦ heard_after (sent p c) (load_heard T (λ i. f (suc i)) n (T t.turn.loading t.seen (f 0)))
     ]
 
 -- the most cycles of an operation: its writes, 2N polls and the confirming read
@@ -96,7 +95,7 @@ AllAllowed j image (s ∷ ss) = (s.cycle.wp ≡ j.wp) × (Allowed j image s.cycl
 -- it has ended, whatever was replied: no cycle is named; the number is 0, 11 or 12; no more cycles than those were sent, and no others than a job may send; every
 -- later turn repeats it
 pub record HasEnded (T : Loading → List ℕ → ℕ → LoadTurned) (j : Job) (image : List ℕ) (h : LoadHeard) : Type 0 where
-  pub names-nothing : h.last.turn.next ≡ SendsNothing
+  pub names-nothing : h.last.turn.next ≡ None
   pub numbered : is_ending h.last.turn.answer ≡ true
   pub cycles-few : length h.sent ≤ cycles_most j
   pub allowed : AllAllowed j image h.sent

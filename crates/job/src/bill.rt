@@ -1,16 +1,16 @@
 // The job, the second call, and the bill.
-ghost use Rattle.std.specs.Prelude.{◌≡◌, ◌-◌, ◌≤◌};
+ghost use Rattle.std.specs.Prelude.{◌≡◌, ◌≤◌};
 ghost use Rattle.job.specs.Formulas.{operation_time};
-ghost use Rattle.job.specs.Bill.{FullTimeFits, bill_of, first_few, full_of, job_from, job_on, load_of, refused_bill, refused_report, report_of, reported};
+ghost use Rattle.job.specs.Bill.{FullTimeFits, bill_of, full_of, job_on, load_of, refused_bill, refused_report, report_of, reported};
 
 use crate::loader::Job;
-use crate::run::{Last, MOST_CYCLES, RunEnd, Tally, no_last, run};
+use crate::run::{Last, MOST_CYCLES, RunEnd, Tally, run};
 use parts::Row;
 use parts::names::{PROGRAM, SECTOR};
 
 // The bill: µs saved and spent, then counts, the sum, and 0 or the refusal.
 #[repr(C)]
-#[derive(Clone, Copy)]
+#[derive(Clone, Copy, Default)]
 pub struct Bill {
     pub saved: u64,
     pub spent: u64,
@@ -25,7 +25,7 @@ pub struct Bill {
 
 // What the second call hands back: 0 or the refusal, how many cycles were sent, the last one and its reply, counts and µs so far.
 #[repr(C)]
-#[derive(Clone, Copy)]
+#[derive(Clone, Copy, Default)]
 pub struct Report {
     pub answer: u32,
     pub sent: u64,
@@ -54,28 +54,13 @@ pub(crate) fn job_on(row: Row, part: u32, first: u32, count: u32, wp: bool, p: u
     }
 }
 
-// A job that was not refused.
-fn job_of(part: u32, first: u32, count: u32, wp: bool, p: u32) -> Job
-    ensures { result ≡ job_from part first count wp p }
-{
-    let found = table::part_row(part);
-    job_on(found.row, part, first, count, wp, p)
-}
-
 // The bill of a refusal.
 fn refused_bill(answer: u32) -> Bill
     ensures { result ≡ refused_bill answer }
 {
     Bill {
-        saved: 0,
-        spent: 0,
-        erases: 0,
-        programs: 0,
-        polls: 0,
-        scans: 0,
-        confirms: 0,
-        sum: 0,
         answer,
+        ..Bill::default()
     }
 }
 
@@ -85,15 +70,7 @@ fn refused_report(answer: u32) -> Report
 {
     Report {
         answer,
-        sent: 0,
-        last: no_last(),
-        reply: 0,
-        erases: 0,
-        programs: 0,
-        polls: 0,
-        scans: 0,
-        confirms: 0,
-        time: 0,
+        ..Report::default()
     }
 }
 
@@ -102,12 +79,11 @@ fn write_report(e: RunEnd) -> Report
     ensures { result ≡ reported e.held e.answer }
 {
     let h = e.held;
-    let last = h.last;
     let t = h.tally;
     Report {
         answer: e.answer,
         sent: h.sent,
-        last,
+        last: h.last,
         reply: h.reply,
         erases: t.erases,
         programs: t.programs,
@@ -139,23 +115,13 @@ fn full_time(job: Job) -> u64
     sectors as u64 * erase + job.count as u64 * program
 }
 
-// What is left of full once spent is taken away.
-fn left_of(full: u64, spent: u64) -> u64
-    ensures { result ≡ full - spent }
-{
-    if full < spent {
-        return 0;
-    }
-    full - spent
-}
-
 // The bill of a job's counts and sum, and the number that the loader stopped with.
 fn write_bill(job: Job, t: Tally, sum: u16, answer: u32) -> Bill
     requires { FullTimeFits job }
     ensures { result ≡ bill_of job t sum answer }
 {
     Bill {
-        saved: left_of(full_time(job), t.time),
+        saved: full_time(job).saturating_sub(t.time),
         spent: t.time,
         erases: t.erases,
         programs: t.programs,
@@ -165,16 +131,6 @@ fn write_bill(job: Job, t: Tally, sum: u16, answer: u32) -> Bill
         sum,
         answer,
     }
-}
-
-// As many cycles as any job sends, or fewer.
-fn first_few(k: u64) -> u64
-    ensures { result ≡ first_few k }
-{
-    if MOST_CYCLES < k {
-        return MOST_CYCLES;
-    }
-    k
 }
 
 // The second call: sends only the first k cycles of the job, all if fewer.
@@ -189,28 +145,27 @@ pub fn load_first(
 ) -> Report
     ensures { (result ≡ (report_of part cells.old first image.now wp p k).report) × (cells.new ≡ (report_of part cells.old first image.now wp p k).cells) }
 {
-    let answer = request::job_refusal(part, cells.len(), first, image, wp, p);
-    if 0 < answer {
-        return refused_report(answer);
+    match request::check_job(part, cells.len(), first, image, wp, p) {
+        Ok(row) => {
+            let job = job_on(row, part, first, image.len() as u32, wp, p);
+            write_report(run(cells, job, image, k.min(MOST_CYCLES)))
+        }
+        Err(refusal) => refused_report(refusal.number()),
     }
-    let job = job_of(part, first, image.len() as u32, wp, p);
-    write_report(run(cells, job, image, first_few(k)))
 }
 
 // The job: loads the image from first on, and writes the bill.
 pub fn load(part: u32, cells: &mut [u16], first: u32, image: &[u16], wp: bool, p: u32) -> Bill
     ensures { (result ≡ (load_of part cells.old first image.now wp p).bill) × (cells.new ≡ (load_of part cells.old first image.now wp p).cells) }
 {
-    let answer = request::job_refusal(part, cells.len(), first, image, wp, p);
-    if 0 < answer {
-        return refused_bill(answer);
+    match request::check_job(part, cells.len(), first, image, wp, p) {
+        Ok(row) => {
+            let job = job_on(row, part, first, image.len() as u32, wp, p);
+            let ended = run(&mut *cells, job, image, MOST_CYCLES);
+            let from = first as usize;
+            let total = values::sum(&cells[from..from + image.len()], row.width);
+            write_bill(job, ended.held.tally, total, ended.answer)
+        }
+        Err(refusal) => refused_bill(refusal.number()),
     }
-    let job = job_of(part, first, image.len() as u32, wp, p);
-    let ended = run(&mut *cells, job, image, MOST_CYCLES);
-    let from = first as usize;
-    let end = from + image.len();
-    let total = values::sum(&cells[from..end], job.row.width);
-    let held = ended.held;
-    let tally = held.tally;
-    write_bill(job, tally, total, ended.answer)
 }

@@ -1,13 +1,13 @@
 // The loader: a machine by value over replies. It never sees the cells: what it decides, it decides from what was read.
 ghost use Rattle.std.specs.Prelude.{◌≡◌, ◌+◌, ◌≤◌, ◌<◌, length, eqb, true};
 ghost use Rattle.parts.specs.Pick.{pick};
-ghost use Rattle.job.specs.Loader.{afterwards, begin_of, burn_of, carry_out, decide_of, driven_of, fill_of, first_step, goes_on, in_job, look_of, next_sector, polling, purpose_of, reads_cell, scanned_of, seen_of, stage_of, turn_of};
+ghost use Rattle.job.specs.Loader.{afterwards, begin_of, burn_of, carry_out, decide_of, driven_of, fill_of, first_step, goes_on, in_job, look_of, next_sector, purpose_of, reads_cell, scanned_of, seen_of, stage_of, turn_of};
 ghost use Rattle.job.specs.Fits.{JobFits};
 
 use device::{Action, Cycle};
-use driver::{Driver, Next, Phase, Step};
-use parts::Row;
-use parts::names::{BAD_STATE, PROGRAM, SECTOR};
+use driver::{Driver, Phase, Step};
+use parts::names::{PROGRAM, SECTOR};
+use parts::{Refusal, Row};
 use values::Decision;
 
 // A job that was not refused: its part and row, the first address, the number of image values, WP# and p.
@@ -116,11 +116,9 @@ impl Job {
     fn first_step(self, task: Task, base: u32, at: u32, step: Step) -> Turn
         ensures { result ≡ first_step self task base at step }
     {
-        let next = step.next;
-        let d = step.driver;
-        match next {
-            Next::Nothing => Turn::Stop(step.answer),
-            Next::Send(elapsed, action) => self.goes_on(task, base, at, d, elapsed, action),
+        match step.next {
+            None => Turn::Stop(step.answer),
+            Some((elapsed, action)) => self.goes_on(task, base, at, step.driver, elapsed, action),
         }
     }
 
@@ -225,11 +223,9 @@ impl Job {
         requires at_lt_size { at < self.size }
         ensures { result ≡ driven_of self image.now task base at step }
     {
-        let next = step.next;
-        let d = step.driver;
-        match next {
-            Next::Nothing => self.operation_ended(image, task, base, at, step.answer),
-            Next::Send(elapsed, action) => self.goes_on(task, base, at, d, elapsed, action),
+        match step.next {
+            None => self.operation_ended(image, task, base, at, step.answer),
+            Some((elapsed, action)) => self.goes_on(task, base, at, step.driver, elapsed, action),
         }
     }
 
@@ -261,51 +257,16 @@ impl Job {
     }
 }
 
-// Whether a driver polls.
-fn is_polling(phase: Phase) -> bool
-    ensures { result ≡ polling phase }
-{
-    match phase {
-        Phase::Writing => false,
-        Phase::Polling => true,
-        Phase::Confirming => false,
-        Phase::Done => false,
-        Phase::GaveUp => false,
-        Phase::Differs => false,
-    }
-}
-
-// Why a read is named.
-fn read_purpose(polls: bool) -> Purpose
-    ensures { result ≡ pick polls Purpose.Poll Purpose.Confirm }
-{
-    if polls {
-        return Purpose::Poll;
-    }
-    Purpose::Confirm
-}
-
-// Why a write is named.
-fn write_purpose(polls: bool, command: u32) -> Purpose
-    ensures { result ≡ pick polls (Purpose.Begin command) Purpose.Lead }
-{
-    if polls {
-        return Purpose::Begin(command);
-    }
-    Purpose::Lead
-}
-
 // Why a driver names a cycle.
 fn purpose_of(d: Driver, action: Action) -> Purpose
     ensures { result ≡ purpose_of d.command d.phase action }
 {
-    let phase = d.phase;
-    let polls = is_polling(phase);
+    let polls = d.phase == Phase::Polling;
     match action {
-        Action::Read(_) => read_purpose(polls),
-        Action::Write(_, _) => write_purpose(polls, d.command),
-        Action::Idle => Purpose::Lead,
-        Action::Cut(_) => Purpose::Lead,
+        Action::Read(_) if polls => Purpose::Poll,
+        Action::Read(_) => Purpose::Confirm,
+        Action::Write(_, _) if polls => Purpose::Begin(d.command),
+        _ => Purpose::Lead,
     }
 }
 
@@ -314,10 +275,7 @@ impl Loader {
     pub(crate) fn is_in_job(self, job: Job) -> bool
         ensures { result ≡ in_job job self }
     {
-        if self.base as u64 + job.size as u64 <= job.count as u64 {
-            return self.at < job.size;
-        }
-        false
+        self.base as u64 + job.size as u64 <= job.count as u64 && self.at < job.size
     }
 
     // What the stage does, the reply of a scan being among the values seen.
@@ -328,8 +286,7 @@ impl Loader {
         requires size_in_bounds { job.size ≤ length seen.now }
         ensures { result ≡ stage_of job image.now seen.now self.stage self.base self.at reply }
     {
-        let stage = self.stage;
-        match stage {
+        match self.stage {
             Stage::Scanning => job.scanned(image, seen, self.base, self.at),
             Stage::Looking => job.burn(image, self.base, self.at, reply),
             Stage::Driving(task, d) => job.driven(image, task, self.base, self.at, d.step(reply)),
@@ -341,14 +298,8 @@ impl Loader {
         requires { self.at < 4096 }
         ensures { seen.new ≡ seen_of self.stage seen.old self.at reply }
     {
-        let stage = self.stage;
-        let at = self.at as usize;
-        match stage {
-            Stage::Scanning => {
-                seen[at] = reply;
-            }
-            Stage::Looking => {}
-            Stage::Driving(_, _) => {}
+        if matches!(self.stage, Stage::Scanning) {
+            seen[self.at as usize] = reply;
         }
     }
 
@@ -358,7 +309,7 @@ impl Loader {
         ensures { (result ≡ (turn_of job image.now seen.old self reply).turn) × (seen.new ≡ (turn_of job image.now seen.old self reply).seen) }
     {
         if !self.is_in_job(job) {
-            return Turn::Stop(BAD_STATE);
+            return Turn::Stop(Refusal::BadState.number());
         }
         self.keep(seen, reply);
         self.stage_turn(job, image, &seen[..], reply)

@@ -7,7 +7,8 @@ use crate::bill::job_on;
 use crate::loader::{Job, Loader, Purpose, Stage, Task, Turn};
 use device::Cycle;
 use driver::{Driver, Phase};
-use parts::names::{BAD_STATE, DIFFERS, GAVE_UP, PROGRAM, SECTOR};
+use parts::Refusal;
+use parts::names::{PROGRAM, SECTOR};
 
 // How far a job is: no cycle named yet; within; or ended with its number.
 #[derive(Clone, Copy)]
@@ -35,19 +36,13 @@ pub struct Begun {
     pub loading: Loading,
 }
 
-// What a turn names: nothing, or the next cycle, at the job's WP# level, and why it is sent.
-#[derive(Clone, Copy)]
-pub enum Sending {
-    SendsNothing,
-    Sends(Purpose, Cycle),
-}
-
-// A turn's answer: 0 with a cycle; 0, 11 or 12 at the end; or a refusal. Then the job handed back, and the cycle.
+// A turn's answer: 0 with a cycle; 0, 11 or 12 at the end; or a refusal. Then the job handed back, and the cycle,
+// if one is named, at the job's WP# level, and why it is sent.
 #[derive(Clone, Copy)]
 pub struct LoadTurn {
     pub answer: u32,
     pub loading: Loading,
-    pub next: Sending,
+    pub next: Option<(Purpose, Cycle)>,
 }
 
 // A job that has named nothing yet.
@@ -64,20 +59,20 @@ fn waiting(part: u32, first: u32, count: u32, wp: bool, p: u32) -> Loading
     }
 }
 
-// Begins a job to which no cells are lent: refusals 1, 10, 6, 7, 8, 9.
+// Begins a job to which no cells are lent: refusals 1, 10, 6, 7, 8, 9. A refused begin hands back the all-zero state.
+// kept: what may not change: a refused begin's state, which its clause and demands' theorems on a begin speak of
 pub fn begin_load(part: u32, first: u32, image: &[u16], wp: bool, p: u32) -> Begun
     ensures { result ≡ begin_load part first image.now wp p }
 {
-    let answer = request::begin_refusal(part, first, image, wp, p);
-    if 0 < answer {
-        return Begun {
-            answer,
+    match request::check_begin(part, first, image, wp, p) {
+        Ok(_) => Begun {
+            answer: 0,
+            loading: waiting(part, first, image.len() as u32, wp, p),
+        },
+        Err(refusal) => Begun {
+            answer: refusal.number(),
             loading: waiting(0, 0, 0, false, 0),
-        };
-    }
-    Begun {
-        answer: 0,
-        loading: waiting(part, first, image.len() as u32, wp, p),
+        },
     }
 }
 
@@ -85,32 +80,18 @@ pub fn begin_load(part: u32, first: u32, image: &[u16], wp: bool, p: u32) -> Beg
 fn is_ending(n: u32) -> bool
     ensures { result ≡ is_ending n }
 {
-    if n == 0 {
-        return true;
-    }
-    if n == GAVE_UP {
-        return true;
-    }
-    n == DIFFERS
+    n == 0 || n == Refusal::GaveUp.number() || n == Refusal::Differs.number()
 }
 
 // Whether two drivers ask for the same.
 fn same_asked(d: Driver, e: Driver) -> bool
     ensures { result ≡ same_asked d e }
 {
-    if d.part != e.part {
-        return false;
-    }
-    if d.command != e.command {
-        return false;
-    }
-    if d.address != e.address {
-        return false;
-    }
-    if d.data != e.data {
-        return false;
-    }
-    d.p == e.p
+    d.part == e.part
+        && d.command == e.command
+        && d.address == e.address
+        && d.data == e.data
+        && d.p == e.p
 }
 
 impl Job {
@@ -151,16 +132,11 @@ impl Loader {
         requires { JobFits job (length image.now) }
         ensures { result ≡ loader_in_range job image.now self }
     {
-        if !self.is_in_job(job) {
+        if !self.is_in_job(job) || self.base % job.size != 0 {
             return false;
         }
-        if self.base % job.size != 0 {
-            return false;
-        }
-        let stage = self.stage;
-        match stage {
-            Stage::Scanning => true,
-            Stage::Looking => true,
+        match self.stage {
+            Stage::Scanning | Stage::Looking => true,
             Stage::Driving(task, d) => same_asked(
                 d,
                 job.asked_for(image, task, self.base, self.at),
@@ -186,24 +162,17 @@ impl Loading {
     fn moved_to(self, progress: Progress) -> Loading
         ensures { result ≡ moved_to self progress }
     {
-        Loading {
-            part: self.part,
-            first: self.first,
-            count: self.count,
-            wp: self.wp,
-            p: self.p,
-            progress,
-        }
+        Loading { progress, ..self }
     }
 
     // A number and no cycle, the job handed back as it came.
     fn answers(self, n: u32) -> LoadTurn
-        ensures { result ≡ load_turn n self Sending.SendsNothing }
+        ensures { result ≡ load_turn n self None }
     {
         LoadTurn {
             answer: n,
             loading: self,
-            next: Sending::SendsNothing,
+            next: None,
         }
     }
 
@@ -225,7 +194,7 @@ impl Loading {
             Turn::Play(loader, purpose, cycle) => LoadTurn {
                 answer: 0,
                 loading: self.moved_to(Progress::Within(loader)),
-                next: Sending::Sends(purpose, cycle),
+                next: Some((purpose, cycle)),
             },
             Turn::Stop(n) => self.stops_with(n),
         }
@@ -236,11 +205,10 @@ impl Loading {
         requires { JobFits job (length image.now) }
         ensures { (result ≡ (job_turn self job image.now seen.old read).turn) × (seen.new ≡ (job_turn self job image.now seen.old read).seen) }
     {
-        let progress = self.progress;
-        if !progress_in_range(job, image, progress) {
-            return self.answers(BAD_STATE);
+        if !progress_in_range(job, image, self.progress) {
+            return self.answers(Refusal::BadState.number());
         }
-        match progress {
+        match self.progress {
             Progress::Waiting => self.taken(job.next_sector(0)),
             Progress::Within(loader) => self.taken(loader.turn(job, image, seen, read)),
             Progress::Over(n) => self.stops_with(n),
@@ -251,16 +219,13 @@ impl Loading {
     pub fn turn(self, image: &[u16], seen: &mut [u16; 4096], read: u16) -> LoadTurn
         ensures { (result ≡ (load_turn_of self image.now seen.old read).turn) × (seen.new ≡ (load_turn_of self image.now seen.old read).seen) }
     {
-        let found = table::part_row(self.part);
-        if 0 < request::standing_refusal(found, self.first, self.count, self.wp, self.p) {
-            return self.answers(BAD_STATE);
+        let checked = request::check_standing(self.part, self.first, self.count, self.wp, self.p);
+        match checked {
+            Ok(row) if self.count as usize == image.len() => {
+                let job = job_on(row, self.part, self.first, self.count, self.wp, self.p);
+                self.job_turn(job, image, seen, read)
+            }
+            _ => self.answers(Refusal::BadState.number()),
         }
-        if self.count as usize != image.len() {
-            return self.answers(BAD_STATE);
-        }
-        let job = job_on(
-            found.row, self.part, self.first, self.count, self.wp, self.p,
-        );
-        self.job_turn(job, image, seen, read)
     }
 }

@@ -1,17 +1,17 @@
 // The run: the loader's cycles are sent one by one through the bus cycle, and counted.
 ghost use Rattle.std.specs.Prelude.{◌≡◌, ◌<◌, ◌≤◌, length};
 ghost use Rattle.job.specs.Fits.{CountsFit, JobFits, MOST-CYCLES};
-ghost use Rattle.job.specs.Run.{begun_of, counted_of, run_end, last_of, no_last, none_sent, run_from, send_of, stop_from, stop_number, world};
+ghost use Rattle.job.specs.Run.{begun_of, counted_of, run_end, last_of, run_from, send_of, stop_from, stop_number, world};
 
 use crate::loader::{Job, Purpose, Turn};
 use device::{Action, Cycle, Device};
-use parts::names::{A_READ, A_WRITE, NO_CYCLE, PROGRAM};
+use parts::names::{A_READ, A_WRITE, PROGRAM};
 
 // No job sends more cycles.
 pub(crate) const MOST_CYCLES: u64 = 2147483648;
 
 // What the cycles sent so far have counted, and their µs.
-#[derive(Clone, Copy)]
+#[derive(Clone, Copy, Default)]
 pub struct Tally {
     pub erases: u64,
     pub programs: u64,
@@ -23,7 +23,7 @@ pub struct Tally {
 
 // The last cycle: kind 0 none, 1 read, 2 write.
 #[repr(C)]
-#[derive(Clone, Copy)]
+#[derive(Clone, Copy, Default)]
 pub struct Last {
     pub kind: u32,
     pub elapsed: u32,
@@ -33,7 +33,7 @@ pub struct Last {
 }
 
 // What is held beside the cells: the device, the counts, the last cycle and its reply, and how many were sent.
-#[derive(Clone, Copy)]
+#[derive(Clone, Copy, Default)]
 pub struct Held {
     pub device: Device,
     pub tally: Tally,
@@ -47,19 +47,6 @@ pub struct Held {
 pub(crate) struct RunEnd {
     pub(crate) held: Held,
     pub(crate) answer: u32,
-}
-
-// No cycle.
-pub(crate) fn no_last() -> Last
-    ensures { result ≡ no_last }
-{
-    Last {
-        kind: NO_CYCLE,
-        elapsed: 0,
-        wp: false,
-        address: 0,
-        data: 0,
-    }
 }
 
 // A cycle as numbers.
@@ -81,8 +68,7 @@ fn last_of(elapsed: u32, wp: bool, action: Action) -> Last
             address,
             data,
         },
-        Action::Idle => no_last(),
-        Action::Cut(_) => no_last(),
+        Action::Idle | Action::Cut(_) => Last::default(),
     }
 }
 
@@ -92,14 +78,19 @@ impl Tally {
         requires { CountsFit self MOST-CYCLES }
         ensures { result ≡ begun_of self command elapsed }
     {
-        let mut t = self;
-        t.time += elapsed as u64;
+        let time = self.time + elapsed as u64;
         if command == PROGRAM {
-            t.programs += 1;
-            return t;
+            return Tally {
+                programs: self.programs + 1,
+                time,
+                ..self
+            };
         }
-        t.erases += 1;
-        t
+        Tally {
+            erases: self.erases + 1,
+            time,
+            ..self
+        }
     }
 
     // A cycle more.
@@ -107,45 +98,26 @@ impl Tally {
         requires { CountsFit self MOST-CYCLES }
         ensures { result ≡ counted_of self purpose elapsed }
     {
-        let mut t = self;
-        t.time += elapsed as u64;
+        let later = Tally {
+            time: self.time + elapsed as u64,
+            ..self
+        };
         match purpose {
-            Purpose::Scan => {
-                t.scans += 1;
-                t
-            }
-            Purpose::Lead => t,
+            Purpose::Scan => Tally {
+                scans: self.scans + 1,
+                ..later
+            },
+            Purpose::Lead => later,
             Purpose::Begin(command) => self.begun(command, elapsed),
-            Purpose::Poll => {
-                t.polls += 1;
-                t
-            }
-            Purpose::Confirm => {
-                t.confirms += 1;
-                t
-            }
+            Purpose::Poll => Tally {
+                polls: self.polls + 1,
+                ..later
+            },
+            Purpose::Confirm => Tally {
+                confirms: self.confirms + 1,
+                ..later
+            },
         }
-    }
-}
-
-// Nothing sent: a fresh device.
-fn none_sent() -> Held
-    ensures { result ≡ none_sent }
-{
-    let tally = Tally {
-        erases: 0,
-        programs: 0,
-        polls: 0,
-        scans: 0,
-        confirms: 0,
-        time: 0,
-    };
-    Held {
-        device: device::fresh(),
-        tally,
-        last: no_last(),
-        reply: 0,
-        sent: 0,
     }
 }
 
@@ -155,16 +127,12 @@ fn send(part: u32, cells: &mut [u16], h: Held, purpose: Purpose, cycle: Cycle) -
     requires sent_bound { h.sent < MOST-CYCLES }
     ensures { (result ≡ (send_of part (world cells.old h) purpose cycle).held) × (cells.new ≡ (send_of part (world cells.old h) purpose cycle).cells) }
 {
-    let device = h.device;
-    let tally = h.tally;
-    let action = cycle.action;
-    let o = chip::bus_cycle(part, cells, device, cycle);
-    let next = o.device;
+    let reply = chip::bus_cycle(part, cells, h.device, cycle);
     Held {
-        device: next,
-        tally: tally.counted(purpose, cycle.elapsed),
-        last: last_of(cycle.elapsed, cycle.wp, action),
-        reply: o.value,
+        device: reply.device,
+        tally: h.tally.counted(purpose, cycle.elapsed),
+        last: last_of(cycle.elapsed, cycle.wp, cycle.action),
+        reply: reply.value,
         sent: h.sent + 1,
     }
 }
@@ -186,7 +154,7 @@ pub(crate) fn run(cells: &mut [u16], job: Job, image: &[u16], k: u64) -> RunEnd
     ensures { (result ≡ run_end (run_from job image.now cells.old k).held (stop_from job image.now cells.old k)) × (cells.new ≡ (run_from job image.now cells.old k).cells) }
 {
     let mut seen = [0u16; 4096];
-    let mut held = none_sent();
+    let mut held = Held::default();
     let mut turn = job.next_sector(0);
     while held.sent < k {
         let Turn::Play(loader, purpose, cycle) = turn else {

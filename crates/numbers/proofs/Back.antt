@@ -1,4 +1,5 @@
 -- States cross to C and back: the numbers of a state are read as that state, and a refused call hands back the numbers as they came.
+use Rattle.std.specs.Prelude.{None}
 use Prim.Native.Nat.{ℕ, zero, suc, ◌<◌, ◌≤◌}
 use mathlib.Core.Path.{◌≡◌, refl, sym, ap, ◌∙◌}
 use mathlib.Core.Bool.{Bool, true, false}
@@ -23,7 +24,6 @@ use Rattle.job.specs.declared.loader.Task.TheVariants.{Erasing, Filling, Burning
 use Rattle.job.specs.declared.loading.Progress.{Progress}
 use Rattle.job.specs.declared.loading.Progress.TheVariants.{Waiting, Within, Over}
 use Rattle.job.specs.declared.loading.Loading.{Loading}
-use Rattle.job.specs.declared.loading.Sending.TheVariants.{SendsNothing}
 use Rattle.job.specs.Loader.{loader}
 use Rattle.job.specs.Loading.{loading, is_ending, moved_to, load_turn, LoadTurned, load_turned, load_turn_of}
 use Rattle.job.proofs.AsItCame.{as-it-came}
@@ -146,7 +146,7 @@ progress-known g (Within l) = stage-known g l.stage l.base l.at
 progress-known g (Over n) = (refl, refl)
 
 -- a refused turn on the numbers of a job hands back those numbers, as its own job is handed back as it came
-refused-told : (g : Loading) (seen : List ℕ) (t : LoadTurned) → (is_ending t.turn.answer ≡ false → t ≡ load_turned seen (load_turn t.turn.answer g SendsNothing))
+refused-told : (g : Loading) (seen : List ℕ) (t : LoadTurned) → (is_ending t.turn.answer ≡ false → t ≡ load_turned seen (load_turn t.turn.answer g None))
     → turned_numbers (loading_numbers g) t ≡ told_turned t
 unfolding turn_numbers
 refused-told g seen t h = by (is_ending t.turn.answer) refl

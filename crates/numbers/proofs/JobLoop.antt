@@ -1,4 +1,5 @@
 -- The C controller's loop over a job is the library loader's talk, as numbers.
+use Rattle.std.specs.Prelude.{Some, None}
 use Prim.Native.Nat.{ℕ, zero, suc}
 use mathlib.Core.Path.{◌≡◌, refl, ap, ◌∙◌}
 use mathlib.Core.List.{List, ◌∷◌}
@@ -9,8 +10,7 @@ use Rattle.driver.specs.Talk.{shows}
 use Rattle.bus.specs.Cycle.{device_numbers, device_of, cycled_numbers}
 use Rattle.bus.proofs.Back.{level-back, device-back, cycle-of-device}
 use Rattle.job.specs.declared.loading.Loading.{Loading}
-use Rattle.job.specs.declared.loading.Sending.{Sending}
-use Rattle.job.specs.declared.loading.Sending.TheVariants.{SendsNothing, Sends}
+use Rattle.job.specs.Loading.{Sending}
 use Rattle.job.specs.Loading.{load_turn, LoadTurned, load_turned}
 use Rattle.job.specs.Socket.{load_talk, load_heard}
 use Rattle.numbers.specs.Machine.{next_of}
@@ -45,8 +45,8 @@ module _ (image : List ℕ) where
     where
       by : ((t : LoadTurned) → SendingBack t.turn → (h : Chip) → Same part n t h) → (x : Sending) → next_of (sending_numbers x) ≡ next_sent x
           → Same part (suc n) (load_turned t.seen (load_turn t.turn.answer t.turn.loading x)) h
-      by rest SendsNothing b = rw (b, job_loop)
-      by rest (Sends p c) b =
+      by rest None b = rw (b, job_loop)
+      by rest (Some (p, c)) b =
           rw (b, level-back c.wp, job_loop)
           (ap (λ (u : JobLooped). job_looped (c ∷ u.cycles) u.cells u.device u.last) (goes_on part n rest t.turn.loading t.seen c h))
 
@@ -64,8 +64,8 @@ module _ (image : List ℕ) where
     where
       by : SameHeard (λ i. f (suc i)) n (turning t.turn.loading t.seen (f 0)) → (x : Sending) → next_of (sending_numbers x) ≡ next_sent x
           → SameHeard f (suc n) (load_turned t.seen (load_turn t.turn.answer t.turn.loading x))
-      by rest SendsNothing b = rw (b, job_hearing)
-      by rest (Sends p c) b =
+      by rest None b = rw (b, job_hearing)
+      by rest (Some (p, c)) b =
           rw (b, level-back c.wp, job_hearing)
           (ap (λ (u : JobAnswered). job_answered (c ∷ u.cycles) u.last)
           (ap (job_hearing image (λ i. f (suc i)) n) (turn-of-loading t.turn.loading image t.seen (f 0)) ∙ rest))

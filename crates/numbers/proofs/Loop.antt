@@ -1,4 +1,5 @@
 -- The C controller's loop is the driver's talk, as numbers.
+use Rattle.std.specs.Prelude.{Some, None}
 use Prim.Native.Nat.{ℕ, zero, suc}
 use mathlib.Core.Path.{◌≡◌, refl, ap, ◌∙◌}
 use mathlib.Core.List.{◌∷◌}
@@ -6,8 +7,7 @@ use Rattle.device.specs.declared.cycle.Action.{Action}
 use Rattle.device.specs.Cycle.{Chip, cycle}
 use Rattle.device.specs.Trace.{after}
 use Rattle.driver.specs.declared.machine.Driver.{Driver}
-use Rattle.driver.specs.declared.machine.Next.{Next}
-use Rattle.driver.specs.declared.machine.Next.TheVariants.{Nothing, Send}
+use Rattle.driver.specs.Machine.{Next}
 use Rattle.driver.specs.declared.machine.Step.{Step}
 use Rattle.driver.specs.Machine.{step_of}
 use Rattle.driver.specs.Talk.{shows, talk, heard}
@@ -40,8 +40,8 @@ module _ (wp : ℕ) where
   loop-is-talk part (suc n) s b h = by (loop-is-talk part n) s.next refl
     where
       by : ((s : Step) → NextBack s → (h : Chip) → Same part n s h) → (x : Next) → s.next ≡ x → Same part (suc n) s h
-      by rest Nothing q = rw (b ∙ q, q, loop, talk) (rw q)
-      by rest (Send e a) q =
+      by rest None q = rw (b ∙ q, q, loop, talk) (rw q)
+      by rest (Some (e, a)) q =
           rw (b ∙ q, q, loop, talk)
           (ap (λ (t : Looped). looped (cycle e (high wp) a ∷ t.cycles) t.cells t.device t.last) (goes_on part n rest s.driver e a h))
 
@@ -55,8 +55,8 @@ module _ (wp : ℕ) where
   hearing-is-heard f (suc n) s b = by (hearing-is-heard (λ i. f (suc i)) n (step_of s.driver (f 0)) (next-back s.driver (f 0))) s.next refl
     where
       by : SameHeard (λ i. f (suc i)) n (step_of s.driver (f 0)) → (x : Next) → s.next ≡ x → SameHeard f (suc n) s
-      by rest Nothing q = rw (b ∙ q, q, loop_hearing, heard) (rw q)
-      by rest (Send e a) q =
+      by rest None q = rw (b ∙ q, q, loop_hearing, heard) (rw q)
+      by rest (Some (e, a)) q =
           rw (b ∙ q, q, loop_hearing, heard)
           (ap (λ (t : Answered). answered (cycle e (high wp) a ∷ t.cycles) t.last)
           (ap (loop_hearing wp (λ i. f (suc i)) n) (step-of-driver s.driver (f 0)) ∙ rest))

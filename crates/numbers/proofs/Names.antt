@@ -1,4 +1,5 @@
 -- A turn sends nothing but reads and writes, so that its numbers tell which cycle is named.
+use Rattle.std.specs.Prelude.{Some, None}
 use Prim.Native.Nat.{ℕ, ◌+◌}
 use mathlib.Core.Path.{◌≡◌, refl}
 use mathlib.Core.List.{List}
@@ -7,8 +8,7 @@ use lib.ListN.{get_or, take, drop}
 use Rattle.parts.specs.Width.{value_of}
 use Rattle.parts.proofs.Every.{split}
 use Rattle.driver.specs.declared.machine.Driver.{Driver}
-use Rattle.driver.specs.declared.machine.Next.{Next}
-use Rattle.driver.specs.declared.machine.Next.TheVariants.{Nothing, Send}
+use Rattle.driver.specs.Machine.{Next}
 use Rattle.driver.specs.declared.machine.Step.{Step}
 use Rattle.driver.specs.Machine.{step, start_of, step_of, start_writing}
 use Rattle.job.specs.declared.loader.Job.{Job}
@@ -28,7 +28,6 @@ use Rattle.job.specs.declared.loading.LoadTurn.{LoadTurn}
 use Rattle.values.specs.Search.{decision_of}
 use Rattle.job.specs.Loader.{Turned, turned, reads_cell, next_sector, look_of, first_step, begin_of, next_mark, fill_of, burn_of, carry_out, decide_of, afterwards, driven_of, seen_of, scanned_of, stage_of, in_job, turn_of, place_of}
 use Rattle.job.specs.Loading.{is_ending, load_turn, LoadTurned, load_turned, moved_to, job_in, first_turn, loading_in_range, stops_with, taken, progress_of, load_turn_of}
-use Rattle.job.specs.declared.loading.Sending.TheVariants.{SendsNothing}
 use Rattle.numbers.specs.Machine.{sent_numbers, next_numbers, next_of}
 use Rattle.numbers.specs.Loading.{sending_numbers}
 use Rattle.numbers.specs.JobLoop.{next_sent}
@@ -40,7 +39,7 @@ SendingBack t = next_of (sending_numbers t.next) ≡ next_sent t.next
 
 -- so of the loader's turn
 abbrev Plain : Turn → Type 0
-Plain (Play l p c) = next_of (sent_numbers c.elapsed c.action) ≡ Send c.elapsed c.action
+Plain (Play l p c) = next_of (sent_numbers c.elapsed c.action) ≡ Some (c.elapsed, c.action)
 Plain (Stop n) = Unit {0}
 
 module _ (j : Job) (image : List ℕ) where
@@ -59,15 +58,15 @@ module _ (j : Job) (image : List ℕ) where
 
   -- a driver's first step, and any other
   first_plain : (t : Task) (base i n : ℕ) (d : Driver) (x : Next) (k : ℕ) → next_of (next_numbers x) ≡ x → Plain (first_step j t base i (step n d x k))
-  first_plain t base i n d Nothing k b = tt
-  first_plain t base i n d (Send e a) k b = b
+  first_plain t base i n d None k b = tt
+  first_plain t base i n d (Some (e, a)) k b = b
 
   begin-plain : (t : Task) (base i command x : ℕ) → Plain (begin_of j t base i command x)
   unfolding begin_of start_writing next_of
   begin-plain t base i command x =
       let o = start_of j.part command (place_of j base i) x j.p in
       let s = step_of o.driver 0 in
-      split (λ (s : Step). Plain (first_step j t base i s)) (eqb o.answer 0) s (step o.answer o.driver Nothing 0)
+      split (λ (s : Step). Plain (first_step j t base i s)) (eqb o.answer 0) s (step o.answer o.driver None 0)
       (λ _. first_plain t base i s.answer s.driver s.next s.polls (next-back o.driver 0))
       (λ _. tt)
 
@@ -101,8 +100,8 @@ module _ (j : Job) (image : List ℕ) where
 
   driven-plain : (t : Task) (base i n : ℕ) (d : Driver) (x : Next) (k : ℕ) → next_of (next_numbers x) ≡ x → Plain (driven_of j image t base i (step n d x k))
   unfolding driven_of
-  driven-plain t base i n d Nothing k b = split Plain (eqb n 0) (afterwards j image t base i) (Stop n) (λ _. afterwards-plain t base i) (λ _. tt)
-  driven-plain t base i n d (Send e a) k b = b
+  driven-plain t base i n d None k b = split Plain (eqb n 0) (afterwards j image t base i) (Stop n) (λ _. afterwards-plain t base i) (λ _. tt)
+  driven-plain t base i n d (Some (e, a)) k b = b
 
   stage-plain : (seen : List ℕ) (s : Stage) (base i reply : ℕ) → Plain (stage_of j image seen s base i reply)
   stage-plain seen Scanning base i reply = scan-plain seen base i
@@ -121,7 +120,7 @@ module _ (j : Job) (image : List ℕ) where
 module _ (g : Loading) (image seen : List ℕ) (read : ℕ) where
   stop-back : (n : ℕ) → SendingBack (stops_with g n)
   unfolding stops_with next_of
-  stop-back n = split SendingBack (is_ending n) (load_turn n (moved_to g (Over n)) SendsNothing) (load_turn n g SendsNothing) (λ _. refl) (λ _. refl)
+  stop-back n = split SendingBack (is_ending n) (load_turn n (moved_to g (Over n)) None) (load_turn n g None) (λ _. refl) (λ _. refl)
 
   taken_back : (t : Turn) → Plain t → SendingBack (taken g t)
   taken_back (Play l p c) b = b
@@ -136,4 +135,4 @@ module _ (g : Loading) (image seen : List ℕ) (read : ℕ) where
   unfolding load_turn_of next_of
   sending-back =
       split (λ (t : LoadTurned). SendingBack t.turn) (loading_in_range g image) (progress_of g (job_in g) image seen g.progress read)
-      (load_turned seen (load_turn 5 g SendsNothing)) (λ _. progress-names g.progress) (λ _. refl)
+      (load_turned seen (load_turn 5 g None)) (λ _. progress-names g.progress) (λ _. refl)

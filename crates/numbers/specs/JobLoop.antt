@@ -1,14 +1,12 @@
 -- The C controller's loop over a job: it turns, sends the cycle that is named at its level, and gives what it was shown to the next turn.
-use Rattle.std.specs.Prelude.{ℕ, zero, suc, List, [], ◌∷◌, map}
+use Rattle.std.specs.Prelude.{ℕ, zero, suc, List, [], ◌∷◌, map, Some, None}
 use Rattle.device.specs.declared.cycle.Cycle.{Cycle}
 use Rattle.device.specs.Cycle.{cycle}
-use Rattle.driver.specs.declared.machine.Next.{Next}
-use Rattle.driver.specs.declared.machine.Next.TheVariants.{Nothing, Send}
+use Rattle.driver.specs.Machine.{Next}
 use Rattle.bus.specs.declared.cycle.DeviceNumbers.{DeviceNumbers}
 use Rattle.bus.specs.Cycle.{high, device_numbers, cycled_of}
 use Rattle.job.specs.declared.loading.Loading.{Loading}
-use Rattle.job.specs.declared.loading.Sending.{Sending}
-use Rattle.job.specs.declared.loading.Sending.TheVariants.{SendsNothing, Sends}
+use Rattle.job.specs.Loading.{Sending}
 use Rattle.job.specs.Run.{Sent}
 use Rattle.job.specs.Loading.{LoadTurned, load_turn_of}
 use Rattle.job.specs.Socket.{LoadTold, LoadHeard}
@@ -21,8 +19,8 @@ turns_with image g seen read = load_turn_of g image seen read
 
 -- the cycle of what a turn names: a controller is not told why it is sent
 abbrev pub next_sent : Sending → Next
-next_sent SendsNothing = Nothing
-next_sent (Sends p c) = Send c.elapsed c.action
+next_sent None = None
+next_sent (Some (p, c)) = Some (c.elapsed, c.action)
 
 abbrev pub cycles_of : List Sent → List Cycle
 cycles_of ss = map (λ (s : Sent). s.cycle) ss
@@ -47,8 +45,8 @@ unfoldable pub job_loop : List ℕ → ℕ → ℕ → TurnedNumbers → List �
 job_loop image part zero t cells v = job_looped [] cells v t
 job_loop image part (suc n) t cells v =
     elim (next_of t.turn.cycle) [
-      | Nothing ↦ job_looped [] cells v t
-      | Send e a ↦
+      | None ↦ job_looped [] cells v t
+      | Some (e, a) ↦
           let o = cycled_of part cells v e t.turn.wp a in
           let u = job_loop image part n (turned_of t.turn.loading image t.seen o.reply.value) o.cells o.reply.device in
           job_looped (cycle e (high t.turn.wp) a ∷ u.cycles) u.cells u.device u.last
@@ -71,8 +69,8 @@ unfoldable pub job_hearing : List ℕ → (ℕ → ℕ) → ℕ → TurnedNumber
 job_hearing image f zero t = job_answered [] t
 job_hearing image f (suc n) t =
     elim (next_of t.turn.cycle) [
-      | Nothing ↦ job_answered [] t
-      | Send e a ↦
+      | None ↦ job_answered [] t
+      | Some (e, a) ↦
           let u = job_hearing image (λ i. f (suc i)) n (turned_of t.turn.loading image t.seen (f 0)) in
           job_answered (cycle e (high t.turn.wp) a ∷ u.cycles) u.last
     ]

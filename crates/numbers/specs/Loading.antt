@@ -1,5 +1,5 @@
 -- The loader for a real socket as plain numbers: those of a job under way, of a begin and of a turn, and the job of any numbers.
-use Rattle.std.specs.Prelude.{ℕ, List, eqb, ltb}
+use Rattle.std.specs.Prelude.{ℕ, List, eqb, ltb, Some, None}
 use Rattle.parts.specs.Names.{BAD-STATE}
 use Rattle.parts.specs.Pick.{pick, ◌when◌, ◌else◌}
 use Rattle.driver.specs.Machine.{no_driver}
@@ -12,8 +12,7 @@ use Rattle.job.specs.declared.loading.Progress.{Progress}
 use Rattle.job.specs.declared.loading.Progress.TheVariants.{Waiting, Within, Over}
 use Rattle.job.specs.declared.loading.Loading.{Loading}
 use Rattle.job.specs.declared.loading.Begun.{Begun}
-use Rattle.job.specs.declared.loading.Sending.{Sending}
-use Rattle.job.specs.declared.loading.Sending.TheVariants.{SendsNothing, Sends}
+use Rattle.job.specs.Loading.{Sending}
 use Rattle.job.specs.declared.loading.LoadTurn.{LoadTurn}
 use Rattle.job.specs.Loader.{loader}
 use Rattle.job.specs.Loading.{loading, is_ending, LoadTurned, load_turn_of}
@@ -122,13 +121,13 @@ begin_numbers b = record { answer = b.answer; loading = loading_numbers b.loadin
 -- ---- a turn
 -- the cycle that it names
 abbrev pub sending_numbers : Sending → CycleNumbers
-sending_numbers SendsNothing = no_cycle
-sending_numbers (Sends p c) = sent_numbers c.elapsed c.action
+sending_numbers None = no_cycle
+sending_numbers (Some (p, c)) = sent_numbers c.elapsed c.action
 
 -- WP#'s level at it
 abbrev pub sending_level : Sending → ℕ
-sending_level SendsNothing = 0
-sending_level (Sends p c) = bit_number c.wp
+sending_level None = 0
+sending_level (Some (p, c)) = bit_number c.wp
 
 abbrev pub told_turn : LoadTurn → TurnNumbers
 told_turn t =

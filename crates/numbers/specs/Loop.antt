@@ -1,8 +1,7 @@
 -- The C controller's loop: it steps, sends the cycle that is named, and gives what it was shown to the next step.
-use Rattle.std.specs.Prelude.{ℕ, zero, suc, List, [], ◌∷◌}
+use Rattle.std.specs.Prelude.{ℕ, zero, suc, List, [], ◌∷◌, Some, None}
 use Rattle.device.specs.declared.cycle.Cycle.{Cycle}
 use Rattle.device.specs.Cycle.{cycle}
-use Rattle.driver.specs.declared.machine.Next.TheVariants.{Nothing, Send}
 use Rattle.driver.specs.Talk.{Told, Heard}
 use Rattle.bus.specs.declared.cycle.DeviceNumbers.{DeviceNumbers}
 use Rattle.bus.specs.Cycle.{high, device_numbers, cycled_of}
@@ -29,8 +28,8 @@ unfoldable pub loop : ℕ → ℕ → ℕ → StepNumbers → List ℕ → Devic
 loop part wp zero s cells v = looped [] cells v s
 loop part wp (suc n) s cells v =
     elim (next_of s.cycle) [
-      | Nothing ↦ looped [] cells v s
-      | Send e a ↦
+      | None ↦ looped [] cells v s
+      | Some (e, a) ↦
           let o = cycled_of part cells v e wp a in
           let t = loop part wp n (stepped_of s.driver o.reply.value) o.cells o.reply.device in
           looped (cycle e (high wp) a ∷ t.cycles) t.cells t.device t.last
@@ -53,8 +52,8 @@ unfoldable pub loop_hearing : ℕ → (ℕ → ℕ) → ℕ → StepNumbers → 
 loop_hearing wp f zero s = answered [] s
 loop_hearing wp f (suc n) s =
     elim (next_of s.cycle) [
-      | Nothing ↦ answered [] s
-      | Send e a ↦
+      | None ↦ answered [] s
+      | Some (e, a) ↦
           let t = loop_hearing wp (λ i. f (suc i)) n (stepped_of s.driver (f 0)) in
           answered (cycle e (high wp) a ∷ t.cycles) t.last
     ]

@@ -1,5 +1,5 @@
 -- The driver as plain numbers: those of a state, of a start and of a step, and the state of any numbers.
-use Rattle.std.specs.Prelude.{ℕ, eqb, ltb}
+use Rattle.std.specs.Prelude.{ℕ, eqb, ltb, Some, None}
 use Rattle.parts.specs.Names.{NO-CYCLE, A-READ, A-WRITE, BAD-STATE}
 use Rattle.parts.specs.Pick.{◌when◌, ◌else◌}
 use Rattle.device.specs.declared.cycle.Action.{Action}
@@ -8,8 +8,7 @@ use Rattle.driver.specs.declared.machine.Phase.{Phase}
 use Rattle.driver.specs.declared.machine.Phase.TheVariants.{Writing, Polling, Confirming, Done, GaveUp, Differs}
 use Rattle.driver.specs.declared.machine.Driver.{Driver}
 use Rattle.driver.specs.declared.machine.Started.{Started}
-use Rattle.driver.specs.declared.machine.Next.{Next}
-use Rattle.driver.specs.declared.machine.Next.TheVariants.{Nothing, Send}
+use Rattle.driver.specs.Machine.{Next}
 use Rattle.driver.specs.declared.machine.Step.{Step}
 use Rattle.driver.specs.Machine.{driver, step_of}
 use Rattle.numbers.specs.declared.machine.DriverNumbers.{DriverNumbers}
@@ -92,15 +91,15 @@ sent_numbers e Idle = no_cycle
 sent_numbers e (Cut s) = no_cycle
 
 abbrev pub next_numbers : Next → CycleNumbers
-next_numbers Nothing = no_cycle
-next_numbers (Send e a) = sent_numbers e a
+next_numbers None = no_cycle
+next_numbers (Some (e, a)) = sent_numbers e a
 
 -- the cycle of some numbers: any kind but none and a read is a write
 unfoldable pub next_of : CycleNumbers → Next
 next_of n =
-    Nothing when eqb n.kind NO-CYCLE
-    else Send n.elapsed (Read n.address) when eqb n.kind A-READ
-    else Send n.elapsed (Write n.address n.«data»)
+    None when eqb n.kind NO-CYCLE
+    else Some (n.elapsed, Read n.address) when eqb n.kind A-READ
+    else Some (n.elapsed, Write n.address n.«data»)
 
 -- ---- a start and a step
 abbrev pub start_numbers : Started → StartNumbers
