@@ -10,18 +10,16 @@ pub enum Decision {
 }
 
 // The lowest of a cell's low bits that is 0 in the old value and 1 in the new.
-#[tactic(auto, using(crate::proofs::Turns::bits))]
-fn lowest_rise(mut old: u16, mut new: u16, width: u32) -> Option<u32>
+#[tactic(auto, using(crate::proofs::Turns::lowest))]
+fn lowest_rise(old: u16, new: u16, width: u32) -> Option<u32>
     ensures { (i : ℕ) → rise_in i width 0 old new ≡ option_map (λ b. (i, b)) result }
 {
-    for bit in 0..width {
-        if old % 2 == 0 && new % 2 == 1 {
-            return Some(bit);
-        }
-        old /= 2;
-        new /= 2;
+    let bit = (!old & new).trailing_zeros();
+    if bit < width.min(u16::BITS) {
+        Some(bit)
+    } else {
+        None
     }
-    None
 }
 
 // Where a value of old has a 0 among its low bits and that of new a 1, by the cell and its lowest such bit: the search ends at the first one found, or with the shorter slice.
