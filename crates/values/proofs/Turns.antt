@@ -1,6 +1,5 @@
 -- The search for a rising bit, in a cell and over the cells; and by the library's words the values at the front, those that fit, and the sum.
-use Rattle.std.proofs.Common.{◌^◌, zero, sym, pow-suc, eqb-true, min, ◌⊎◌, inl, inr, Some, None, ◌≡◌, ℕ, suc, ◌+◌, ◌-◌, ◌/◌, ◌%◌, ◌<◌, ◌≤◌, Bool, true, false, List, [], ◌∷◌, refl, arith}
-use Rattle.std.proofs.Common.{fold, cond, eqb, ◌&&◌, ◌∙◌}
+use Rattle.std.proofs.Common.{◌≡◌, ◌⊎◌, inl, inr, refl, sym, ◌∙◌, ℕ, zero, suc, ◌+◌, ◌-◌, ◌/◌, ◌%◌, ◌^◌, ◌<◌, ◌≤◌, min, Bool, true, false, cond, ◌&&◌, eqb, Some, None, List, [], ◌∷◌, fold, pow-suc, eqb-true, arith}
 use Rattle.std.specs.List.{prefix_len, list_all}
 use lib.Bits.{bit_and, and_step}
 use lib.Count.{count_trailing_zeros}

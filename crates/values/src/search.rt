@@ -15,11 +15,7 @@ fn lowest_rise(old: u16, new: u16, width: u32) -> Option<u32>
     ensures { (i : ℕ) → rise_in i width 0 old new ≡ option_map (λ b. (i, b)) result }
 {
     let bit = (!old & new).trailing_zeros();
-    if bit < width.min(u16::BITS) {
-        Some(bit)
-    } else {
-        None
-    }
+    (bit < width.min(u16::BITS)).then_some(bit)
 }
 
 // Where a value of old has a 0 among its low bits and that of new a 1, by the cell and its lowest such bit: the search ends at the first one found, or with the shorter slice.
