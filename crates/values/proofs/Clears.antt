@@ -1,22 +1,16 @@
 -- Where no bit must rise, AND with the new value leaves it.
-use Rattle.std.proofs.Common.{◌≡◌, ℕ, zero, suc, ◌+◌, ◌/◌, ◌%◌, ◌^◌, ◌<◌, min, true, eqb, List, [], ◌∷◌, map, length, get_or, sym, refl, ap, ◌∙◌, le_of_suc-le-suc, not-suc-le-zero, pow-suc, arith}
+use Rattle.std.proofs.Common.{Option, Some, None, ◌≡◌, ℕ, zero, suc, ◌+◌, ◌/◌, ◌%◌, ◌^◌, ◌<◌, min, true, eqb, List, [], ◌∷◌, map, length, get_or, sym, refl, ap, ◌∙◌, le_of_suc-le-suc, not-suc-le-zero, pow-suc, arith}
 use lib.Bits.{bit_and, and_step, and_zero_r}
 use Rattle.parts.specs.Pick.{pick}
 use Rattle.parts.specs.Width.{value_of, fits_in}
 use Rattle.parts.proofs.Values.{fits_lt}
-use Rattle.values.specs.declared.search.Rise.{Rise}
-use Rattle.values.specs.declared.search.Rise.TheVariants.{At, Nowhere}
 use Rattle.values.specs.declared.search.Decision.TheVariants.{NoErase}
 use Rattle.values.specs.Search.{rise_in, first_found, rise_from, decides, decision_of}
 
--- found and not found
-pub unlike : {A : Type 0} (i b : ℕ) → At i b ≡ Nowhere → A
-unlike {A} i b e = let z : ◌≡◌ {A = ℕ} 0 1 = cc in absurd (omega arith)
-
 -- one bit: what is left does not rise, and the bit stays
-one_bit : (i b x y : ℕ) (r : Rise) → x < 2 → y < 2 → pick (eqb x 0) (pick (eqb y 1) (At i b) r) r ≡ Nowhere → (r ≡ Nowhere) × (min x y ≡ y)
+one_bit : (i b x y : ℕ) (r : Option (ℕ × ℕ)) → x < 2 → y < 2 → pick (eqb x 0) (pick (eqb y 1) (Some (i, b)) r) r ≡ None → (r ≡ None) × (min x y ≡ y)
 one_bit i b zero zero r hx hy e = (e, refl)
-one_bit i b zero (suc zero) r hx hy e = unlike i b e
+one_bit i b zero (suc zero) r hx hy e = cc
 one_bit i b zero (suc (suc y)) r hx hy e = absurd (omega arith)
 one_bit i b (suc zero) zero r hx hy e = (e, refl)
 one_bit i b (suc zero) (suc zero) r hx hy e = (e, refl)
@@ -24,7 +18,7 @@ one_bit i b (suc zero) (suc (suc y)) r hx hy e = absurd (omega arith)
 one_bit i b (suc (suc x)) y r hx hy e = absurd (omega arith)
 
 -- a cell
-pub clears : (i k b o n : ℕ) → n < 2 ^ k → rise_in i k b o n ≡ Nowhere → bit_and o n ≡ n
+pub clears : (i k b o n : ℕ) → n < 2 ^ k → rise_in i k b o n ≡ None → bit_and o n ≡ n
 unfolding rise_in
 clears i zero b o n h e =
     let z : n ≡ 0 = omega arith in
@@ -37,12 +31,12 @@ clears i (suc k) b o n h e =
     and_step o n ∙ omega (arith, r, q.1)
 
 -- neither of two searches found one
-neither : (r s : Rise) → first_found r s ≡ Nowhere → (r ≡ Nowhere) × (s ≡ Nowhere)
-neither (At i b) s e = unlike i b e
-neither Nowhere s e = (refl, e)
+neither : (r s : Option (ℕ × ℕ)) → first_found r s ≡ None → (r ≡ None) × (s ≡ None)
+neither (Some p) s e = cc
+neither None s e = (refl, e)
 
 -- cells that hold l, at each place
-nowhere : (w c : ℕ) (l v : List ℕ) (i : ℕ) → rise_from w c (map (value_of w) l) v ≡ Nowhere → i < length l → i < length v → fits_in w (get_or v i 0) ≡ true
+nowhere : (w c : ℕ) (l v : List ℕ) (i : ℕ) → rise_from w c (map (value_of w) l) v ≡ None → i < length l → i < length v → fits_in w (get_or v i 0) ≡ true
     → bit_and (value_of w (get_or l i 0)) (get_or v i 0) ≡ get_or v i 0
 unfolding rise_from
 nowhere w c [] v i e hl hv f = absurd (not-suc-le-zero hl)
@@ -56,6 +50,6 @@ pub cleared : (w : ℕ) (l v : List ℕ) (i : ℕ) → decision_of w (map (value
     → bit_and (value_of w (get_or l i 0)) (get_or v i 0) ≡ get_or v i 0
 cleared w l v i e = nowhere w 0 l v i (none (rise_from w 0 (map (value_of w) l) v) e)
   where
-    none : (r : Rise) → decides r ≡ NoErase → r ≡ Nowhere
-    none (At i b) q = let z : ◌≡◌ {A = ℕ} 0 1 = cc in absurd (omega arith)
-    none Nowhere q = refl
+    none : (r : Option (ℕ × ℕ)) → decides r ≡ NoErase → r ≡ None
+    none (Some p) q = cc
+    none None q = refl

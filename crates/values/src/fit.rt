@@ -6,12 +6,5 @@ ghost use Rattle.values.specs.Fit.{fit_all};
 pub fn all_fit(width: u32, image: &[u16]) -> bool
     ensures { result ≡ fit_all width image.now }
 {
-    let mut i: usize = 0;
-    while i < image.len() {
-        if !parts::fits(width, image[i]) {
-            return false;
-        }
-        i += 1;
-    }
-    true
+    image.iter().all(|&x| parts::fits(width, x))
 }

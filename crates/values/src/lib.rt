@@ -6,5 +6,5 @@ mod search;
 mod total;
 
 pub use fit::all_fit;
-pub use search::{Decision, Rise, decision_of, leading};
+pub use search::{Decision, decision_of, leading};
 pub use total::sum;

@@ -6,11 +6,7 @@ ghost use Rattle.values.specs.Total.{sum_of};
 pub fn sum(cells: &[u16], width: u32) -> u16
     ensures { result ≡ sum_of width cells.now }
 {
-    let mut acc: u16 = 0;
-    let mut i: usize = 0;
-    while i < cells.len() {
-        acc = std::num::wrapping_add_u16(acc, parts::value(width, cells[i]));
-        i += 1;
-    }
-    acc
+    cells
+        .iter()
+        .fold(0, |total, &x| total.wrapping_add(parts::value(width, x)))
 }

@@ -1,12 +1,16 @@
-use Rattle.std.proofs.Common.{arith, rules}
-use Rattle.values.proofs.Turns.{front-more, front_ends, front-none}
+use Rattle.std.proofs.Common.{◌∙◌, rules, eqb, ℕ}
+use Rattle.std.proofs.lemmas.Iterator.{YieldsList-from_slice}
+use Rattle.std.proofs.lemmas.Iterator.Consumers.{count_from_yields_List, YieldsList-at}
+use Rattle.std.proofs.lemmas.Iterator.Search.{YieldsList-from_take_while}
+use Rattle.std.proofs.lemmas.List.Folds.{length-prefix_len}
+use Rattle.parts.proofs.Rules.{tests}
+use Rattle.values.proofs.Turns.{prefix-leading}
 use Rattle.values.proofs.search.leading.Goals as goal
 
-pub returns-then-values-i : goal.returns-then-values-i
-returns-then-values-i c = omega (arith, c.loop-i.invariant.1, front_ends c.args.v c.args.values.now c.loop-i.i (search rules) c.if-values-i.true)
-
-pub loop-i-preserved : goal.loop-i-preserved
-loop-i-preserved c = (search rules, omega (arith, c.loop-i.invariant.1, front-more c.args.v c.args.values.now c.loop-i.i (search rules) c.if-values-i.false))
-
 pub returns : goal.returns
-returns c = omega (arith, c.loop-i.invariant.1, front-none c.args.v c.args.values.now c.loop-i.i (search rules))
+returns c =
+    let t = c.take_while in
+    let xs = c.args.values.now in
+    let test = λ (x : ℕ). eqb x c.args.v in
+    count_from_yields_List t.result _ c.count.ensures.ran (YieldsList-from_take_while _ test (YieldsList-at t.ensures.source (YieldsList-from_slice xs cc)) t.ensures.closure t.ensures.done (λ x b q k. search (rules, tests)))
+    ∙ (length-prefix_len test xs ∙ prefix-leading c.args.v xs)
