@@ -1,26 +1,22 @@
 -- What an accepted start hands back.
 use Prim.Native.Nat.{ℕ, ◌≤◌, ◌<◌}
-use mathlib.Core.Path.{◌≡◌, refl, ap, sym, ◌∙◌}
+use mathlib.Core.Path.{◌≡◌, refl}
 use mathlib.Core.Bool.{Bool, true, false}
 use native.Mathlib.Omega.{arith}
-use borrow.Author.Tests.{eq-eqb, ne_eqb, eqb-true, lt-ltb}
+use borrow.Author.Tests.{eq-eqb, ne_eqb, lt-ltb}
 use lib.Dec.{eqb}
 use Rattle.parts.specs.Pick.{pick}
-use Rattle.parts.specs.Table.{row_of, found_of}
-use Rattle.parts.proofs.Every.{split}
+use Rattle.parts.specs.Table.{row_of}
 use Rattle.parts.specs.Width.{blank_of}
 use Rattle.parts.specs.declared.table.Row.{Row}
-use Rattle.parts.specs.Table.{Found}
 use Rattle.device.specs.Sequence.{ignored}
 use Rattle.driver.proofs.Commands.{command-le, four}
-use Rattle.driver.specs.declared.machine.Started.{Started}
 use Rattle.driver.specs.Refusals.{start_refusal}
 use Rattle.driver.specs.Writes.{last_write, writes_of, write_count}
 use Rattle.driver.specs.Machine.{address_of, data_of, bit_seven, bit_wanted, value_wanted, begun, start_of, in_range, step_of, writing_of}
-use Rattle.driver.specs.Fits.{CodesAndTimesFit}
 use Rattle.driver.proofs.Asked.{beginning}
 use Rattle.driver.proofs.Asked as asks
-use Rattle.driver.proofs.Ready.{write-count-some, writing-count, usual-row}
+use Rattle.driver.proofs.Ready.{write-count-some}
 use Rattle.driver.proofs.Steps.{goes}
 
 -- ---- what is kept of the address and the data asks for the same

@@ -1,7 +1,6 @@
 -- What is told of a command's writes, or of one of them, is told of no other result.
 use Rattle.std.specs.Prelude.{◌≡◌, Result, Ok, Err}
 use mathlib.Core.Path.{ap, sym}
-use Rattle.parts.specs.Refused.{number_of}
 use Rattle.parts.specs.declared.refusal.Refusal.{Refusal}
 use Rattle.parts.proofs.Told.{number_of-injective, number_of-positive}
 use Rattle.commands.specs.declared.write.Write.{Write}

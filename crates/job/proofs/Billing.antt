@@ -9,7 +9,12 @@ use lib.ListN.{length, take, drop}
 use lib.Seq.{take_all}
 use Rattle.std.specs.Prelude.{min}
 use Rattle.std.proofs.lemmas.List.{take_min}
+use borrow.Author.Tests.{ne_eqb}
 use Rattle.parts.specs.Table.{row_of}
+use Rattle.parts.specs.Refused.{number_of}
+use Rattle.parts.specs.declared.refusal.Refusal.{Refusal}
+use Rattle.parts.specs.declared.table.Row.{Row}
+use Rattle.parts.proofs.Told.{number_of-positive}
 use Rattle.parts.specs.Time.{time_of}
 use Rattle.parts.proofs.Sound.{width-most, cells-most, time-most}
 use Rattle.parts.proofs.Ranges.{sector-some}
@@ -26,7 +31,7 @@ use Rattle.request.specs.Refusal.{job_refusal}
 use Rattle.job.specs.Run.{World, world, none_sent, play_of, run_from, stop_from, run_end}
 use Rattle.job.specs.Sent.{sent_of}
 use Rattle.job.specs.Formulas.{N, operation_time}
-use Rattle.job.specs.Bill.{FullTimeFits, job_from, bill_of, billed, reported, played, played_all, report_of, load_of}
+use Rattle.job.specs.Bill.{FullTimeFits, job_on, job_from, refused_bill, refused_report, bill_of, billed, reported, played, played_all, report_of, load_of}
 use Rattle.job.proofs.Accepts.{Passed, passed, sector-most}
 use Rattle.job.proofs.Runs.{runs, never-stops-short}
 use Rattle.job.proofs.Counts.{length_most}
@@ -129,3 +134,24 @@ module _ (part first : ℕ) (image cells : List ℕ) (wp : Bool) (p : ℕ) (z : 
         let m : e.answer ≡ 0 = ap (λ (e : RunEnd). e.answer) qe ∙ never-short n in
         rw z
         (qb ∙ (ap₂ {A = ℕ} {B = ℕ} {C = Bill} (bill_of j e.held.tally) qs m ∙ ap (billed part first image wp p) w), ap (λ (w : World). w.cells) w)
+
+-- ---- a job of a part's row, and a job that is refused
+pub job-known : {r : Row} {part first count p : ℕ} {wp : Bool} {j : Job} → r ≡ row_of part → j ≡ job_on r part first count wp p → j ≡ job_from part first count wp p
+job-known {part = part} {first = first} {count = count} {p = p} {wp = wp} e q = q ∙ ap (λ (r : Row). job_on r part first count wp p) e
+
+module _ (part first : ℕ) (image cells : List ℕ) (wp : Bool) (p : ℕ) where
+  abbrev refused : ℕ
+  refused = job_refusal part (length cells) first image wp p
+
+  pub refuses-load : (e : Refusal) → number_of e ≡ refused
+      → (refused_bill (number_of e) ≡ (load_of part cells first image wp p).bill) × (cells ≡ (load_of part cells first image wp p).cells)
+  unfolding load_of
+  refuses-load e q = rw (← q, ne_eqb (number_of e) 0 (number_of-positive e)) (refl, refl)
+
+  pub refuses-report : (k : ℕ) (e : Refusal) → number_of e ≡ refused
+      → (refused_report (number_of e) ≡ (report_of part cells first image wp p k).report) × (cells ≡ (report_of part cells first image wp p k).cells)
+  unfolding report_of
+  refuses-report k e q = rw (← q, ne_eqb (number_of e) 0 (number_of-positive e)) (refl, refl)
+
+-- what the check proves a full job's time by
+pub ruleset times = (polls-fit, sectors-few, erases-fit, programs-fit)

@@ -201,11 +201,11 @@ module _ (j : Job) (image : List ℕ) (R : AcceptedJob j image) where
           s : Alike d (asked_for j image task base i)
           s = alike d (asked_for j image task base i) h
 
-          none : None ≡ Some (e, a) → Allowed j image a
+          none : ◌≡◌ {A = Next} None (Some (e, a)) → Allowed j image a
           none f = let z : ◌≡◌ {A = ℕ} 0 1 = cc in absurd (omega arith)
 
-          is : (m : ℕ) (b : Action) → Some (m, b) ≡ Some (e, a) → Allowed j image b → Allowed j image a
-          is m b f k = let g : b ≡ a = cc in rw (sym g) k
+          is : (m : ℕ) (b : Action) → ◌≡◌ {A = Next} (Some (m, b)) (Some (e, a)) → Allowed j image b → Allowed j image a
+          is m b f k = let g : b ≡ a = ap (λ (x : Next). elim x [ None ↦ b | Some p ↦ p.1 ]) f in rw (sym g) k
 
           go : (t : Step) → Way d t → t.next ≡ Some (e, a) → Allowed j image a
           go t (refused f) n = none n

@@ -1,7 +1,7 @@
 -- The states of the exported loader: in range, or a turn answers them with 5.
 use Rattle.std.specs.Prelude.{None}
 use Prim.Native.Nat.{ℕ, ◌≤◌}
-use mathlib.Core.Path.{◌≡◌, ap, ◌∙◌}
+use mathlib.Core.Path.{◌≡◌, ap}
 use mathlib.Core.Bool.{Bool, true, false}
 use mathlib.Core.List.{List}
 use native.Mathlib.Omega.{arith}
@@ -17,9 +17,8 @@ use Rattle.job.specs.declared.loader.Job.{Job}
 use Rattle.job.specs.declared.loading.Progress.{Progress}
 use Rattle.job.specs.declared.loading.Loading.{Loading}
 use Rattle.job.specs.Fits.{JobFits}
-use Rattle.request.specs.Refusal.{begin_refusal, standing_on, standing_refusal}
+use Rattle.request.specs.Refusal.{begin_refusal, standing_refusal}
 use Rattle.request.proofs.Accepts.{standing, none-stands}
-use Rattle.job.specs.Bill.{job_on, job_from}
 use Rattle.job.specs.Loading.{same_asked, progress_in_range, job_in, loading_in_range, load_turn, load_turned, progress_of, load_turn_of, job_turn}
 use Rattle.job.proofs.Accepts.{sector-most}
 
@@ -88,3 +87,8 @@ module _ (g : Loading) (image : List ℕ) where
         most = sector-most (row_of g.part).width;
         narrow = width-most g.part s.known;
       }
+
+-- what the check proves a begin and a turn by
+pub ruleset begun = (begun-few)
+
+pub ruleset fits = (job-fits)

@@ -1,5 +1,5 @@
 -- The job, the second call, and the bill.
-use Rattle.std.specs.Prelude.{ℕ, ◌+◌, ◌-◌, ◌*◌, ◌/◌, ◌≤◌, ◌<◌, Bool, List, eqb, ltb, length, take, drop}
+use Rattle.std.specs.Prelude.{ℕ, ◌+◌, ◌-◌, ◌*◌, ◌/◌, ◌≤◌, ◌<◌, Bool, List, eqb, length, take, drop}
 use Rattle.parts.specs.Names.{PROGRAM, SECTOR}
 use Rattle.parts.specs.Pick.{pick}
 use Rattle.parts.specs.Width.{sector_size}
@@ -15,7 +15,6 @@ use Rattle.values.specs.Total.{sum_of}
 use Rattle.request.specs.Refusal.{job_refusal}
 use Rattle.job.specs.Run.{World, world, no_last, none_sent, play_of}
 use Rattle.job.specs.Sent.{sent_of}
-use Rattle.job.specs.Fits.{MOST-CYCLES}
 use Rattle.job.specs.Formulas.{operation_time}
 
 -- a job that was not refused: on a part that was looked up, and by the part's number

@@ -95,6 +95,7 @@ fn write_report(e: RunEnd) -> Report
 }
 
 // The µs of an operation: N polls p apart, and the confirming read.
+#[tactic(auto, unfolding(driver::specs::Machine::confirm_after), using(crate::proofs::Billing::times))]
 fn operation_time(job: Job, command: u32) -> u64
     requires full_time_fits { FullTimeFits job }
     requires command_bound { command ≤ 1 }
@@ -105,6 +106,7 @@ fn operation_time(job: Job, command: u32) -> u64
 }
 
 // The time of a full job: every sector erased and every cell programmed.
+#[tactic(auto, unfolding(crate::specs::Bill::full_of), using(crate::proofs::Billing::times))]
 fn full_time(job: Job) -> u64
     requires { FullTimeFits job }
     ensures { result ≡ full_of job }

@@ -80,6 +80,7 @@ impl Job {
     }
 
     // The sector at base is read, if there is one.
+    #[tactic(auto, unfolding(crate::specs::Loader::next_sector), using(parts::proofs::Rules::tests))]
     pub(crate) fn next_sector(self, base: u32) -> Turn
         requires { self.first + self.count ≤ 4194304 }
         ensures { result ≡ next_sector self base }
@@ -91,6 +92,7 @@ impl Job {
     }
 
     // The cells of an unerased sector are read again from at on; then the next sector.
+    #[tactic(auto, unfolding(crate::specs::Loader::look_of), using(parts::proofs::Rules::tests))]
     fn look(self, base: u32, at: u32) -> Turn
         requires count_bound { self.first + self.count ≤ 4194304 }
         requires size_bound { base + self.size ≤ self.count }
@@ -103,6 +105,7 @@ impl Job {
     }
 
     // An operation at a cell of a sector begins with its first write.
+    #[tactic(auto, unfolding(crate::specs::Loader::begin_of))]
     fn begin(self, task: Task, base: u32, at: u32, command: u32, data: u16) -> Turn
         requires { self.first + (base + at) ≤ 4294967295 }
         ensures { result ≡ begin_of self task base at command «data» }
@@ -163,6 +166,7 @@ impl Job {
     }
 
     // A cell of an unerased sector whose value differs is programmed at once.
+    #[tactic(auto, unfolding(crate::specs::Loader::burn_of), using(parts::proofs::Rules::tests))]
     fn burn(self, image: &[u16], base: u32, at: u32, reply: u16) -> Turn
         requires job_fits { JobFits self (length image.now) }
         requires size_bound { base + self.size ≤ self.count }
@@ -217,6 +221,7 @@ impl Job {
     }
 
     // A driver's step: its cycle, or what follows.
+    #[tactic(auto, unfolding(crate::specs::Loader::driven_of))]
     fn driven(self, image: &[u16], task: Task, base: u32, at: u32, step: Step) -> Turn
         requires job_fits { JobFits self (length image.now) }
         requires size_bound { base + self.size ≤ self.count }
@@ -230,6 +235,7 @@ impl Job {
     }
 
     // An operation has ended.
+    #[tactic(auto, using(parts::proofs::Rules::tests))]
     fn operation_ended(self, image: &[u16], task: Task, base: u32, at: u32, answer: u32) -> Turn
         requires job_fits { JobFits self (length image.now) }
         requires size_bound { base + self.size ≤ self.count }
@@ -243,6 +249,7 @@ impl Job {
     }
 
     // The scan goes on to the sector's end, then decides.
+    #[tactic(auto, unfolding(crate::specs::Loader::scanned_of), using(parts::proofs::Rules::tests))]
     fn scanned(self, image: &[u16], seen: &[u16], base: u32, at: u32) -> Turn
         requires job_fits { JobFits self (length image.now) }
         requires size_bound { base + self.size ≤ self.count }
@@ -272,6 +279,7 @@ fn purpose_of(d: Driver, action: Action) -> Purpose
 
 impl Loader {
     // Whether the loader is in its job: its sector in the image, its cell in the sector.
+    #[tactic(auto, unfolding(crate::specs::Loader::in_job), using(parts::proofs::Rules::tests))]
     pub(crate) fn is_in_job(self, job: Job) -> bool
         ensures { result ≡ in_job job self }
     {
@@ -304,6 +312,7 @@ impl Loader {
     }
 
     // The turn after a reply.
+    #[tactic(auto, unfolding(crate::specs::Loader::turn_of), using(crate::proofs::InJob::inside))]
     pub(crate) fn turn(self, job: Job, image: &[u16], seen: &mut [u16; 4096], reply: u16) -> Turn
         requires { JobFits job (length image.now) }
         ensures { (result ≡ (turn_of job image.now seen.old self reply).turn) × (seen.new ≡ (turn_of job image.now seen.old self reply).seen) }

@@ -61,6 +61,7 @@ fn waiting(part: u32, first: u32, count: u32, wp: bool, p: u32) -> Loading
 
 // Begins a job to which no cells are lent: refusals 1, 10, 6, 7, 8, 9. A refused begin hands back the all-zero state.
 // kept: what may not change: a refused begin's state, which its clause and demands' theorems on a begin speak of
+#[tactic(auto, unfolding(crate::specs::Loading::begin_load), using(crate::proofs::InRange::begun))]
 pub fn begin_load(part: u32, first: u32, image: &[u16], wp: bool, p: u32) -> Begun
     ensures { result ≡ begin_load part first image.now wp p }
 {
@@ -77,6 +78,7 @@ pub fn begin_load(part: u32, first: u32, image: &[u16], wp: bool, p: u32) -> Beg
 }
 
 // Whether a number is one that a job ends with.
+#[tactic(auto, unfolding(crate::specs::Loading::is_ending), using(parts::proofs::Rules::tests))]
 fn is_ending(n: u32) -> bool
     ensures { result ≡ is_ending n }
 {
@@ -84,6 +86,7 @@ fn is_ending(n: u32) -> bool
 }
 
 // Whether two drivers ask for the same.
+#[tactic(auto, unfolding(crate::specs::Loading::same_asked), using(parts::proofs::Rules::tests))]
 fn same_asked(d: Driver, e: Driver) -> bool
     ensures { result ≡ same_asked d e }
 {
@@ -128,6 +131,7 @@ impl Job {
 
 impl Loader {
     // Whether the loader is one that its job can have: in it, at a sector's first cell, and a driver asks for what its task does.
+    #[tactic(auto, unfolding(crate::specs::Loading::loader_in_range), using(crate::proofs::InJob::inside, parts::proofs::Rules::tests))]
     fn is_in_range(self, job: Job, image: &[u16]) -> bool
         requires { JobFits job (length image.now) }
         ensures { result ≡ loader_in_range job image.now self }
@@ -177,6 +181,7 @@ impl Loading {
     }
 
     // The end; or the refusal of an operation's start.
+    #[tactic(auto, unfolding(crate::specs::Loading::stops_with))]
     fn stops_with(self, n: u32) -> LoadTurn
         ensures { result ≡ stops_with self n }
     {
@@ -201,6 +206,7 @@ impl Loading {
     }
 
     // A turn of the job that the state is of.
+    #[tactic(auto, unfolding(crate::specs::Loading::job_turn))]
     fn job_turn(self, job: Job, image: &[u16], seen: &mut [u16; 4096], read: u16) -> LoadTurn
         requires { JobFits job (length image.now) }
         ensures { (result ≡ (job_turn self job image.now seen.old read).turn) × (seen.new ≡ (job_turn self job image.now seen.old read).seen) }
@@ -216,6 +222,7 @@ impl Loading {
     }
 
     // Given the value last read, names the next cycle or the end: 5 for a state out of range.
+    #[tactic(auto, unfolding(crate::specs::Loading::load_turn_of, crate::specs::Loading::loading_in_range), using(crate::proofs::InRange::fits))]
     pub fn turn(self, image: &[u16], seen: &mut [u16; 4096], read: u16) -> LoadTurn
         ensures { (result ≡ (load_turn_of self image.now seen.old read).turn) × (seen.new ≡ (load_turn_of self image.now seen.old read).seen) }
     {

@@ -1,7 +1,7 @@
 // The run: the loader's cycles are sent one by one through the bus cycle, and counted.
 ghost use Rattle.std.specs.Prelude.{◌≡◌, ◌<◌, ◌≤◌, length};
 ghost use Rattle.job.specs.Fits.{CountsFit, JobFits, MOST-CYCLES};
-ghost use Rattle.job.specs.Run.{begun_of, counted_of, run_end, last_of, run_from, send_of, stop_from, stop_number, world};
+ghost use Rattle.job.specs.Run.{begun_of, counted_of, run_end, last_of, none_sent, run_from, send_of, stop_from, stop_number, world};
 
 use crate::loader::{Job, Purpose, Turn};
 use device::{Action, Cycle, Device};
@@ -121,7 +121,15 @@ impl Tally {
     }
 }
 
+// Nothing sent: a fresh device.
+fn none_sent() -> Held
+    ensures { result ≡ none_sent }
+{
+    Held::default()
+}
+
 // Sends one cycle.
+#[tactic(auto, unfolding(crate::specs::Run::send_of))]
 fn send(part: u32, cells: &mut [u16], h: Held, purpose: Purpose, cycle: Cycle) -> Held
     requires counts_fit { CountsFit h.tally MOST-CYCLES }
     requires sent_bound { h.sent < MOST-CYCLES }
@@ -154,7 +162,7 @@ pub(crate) fn run(cells: &mut [u16], job: Job, image: &[u16], k: u64) -> RunEnd
     ensures { (result ≡ run_end (run_from job image.now cells.old k).held (stop_from job image.now cells.old k)) × (cells.new ≡ (run_from job image.now cells.old k).cells) }
 {
     let mut seen = [0u16; 4096];
-    let mut held = Held::default();
+    let mut held = none_sent();
     let mut turn = job.next_sector(0);
     while held.sent < k {
         let Turn::Play(loader, purpose, cycle) = turn else {
