@@ -1,5 +1,5 @@
 -- A device crosses to C and back: its numbers are read as that device, and a refused cycle hands back the numbers as they came.
-use Prim.Native.Nat.{ℕ, zero, suc, ◌<◌}
+use Prim.Native.Nat.{ℕ, ◌<◌}
 use mathlib.Core.Path.{◌≡◌, refl, ◌∙◌}
 use mathlib.Core.Bool.{Bool, true, false}
 use mathlib.Core.List.{List}
@@ -125,10 +125,6 @@ unfolding cycle_refusal device_in_range stage_in_range
 no-device part lent n a h = simp h
 
 -- ---- a cycle
-positive : (n : ℕ) → (n ≡ 0 → ⊥) → 0 < n
-positive zero h = absurd (h refl)
-positive (suc n) h = omega arith
-
 -- a cycle on the numbers of a device: the numbers of its reply
 pub cycle-of-device : (part : ℕ) (cells : List ℕ) (d : Device) (c : Cycle) → let r = (cycle_of part cells d c).reply in
     reply_numbers (device_numbers d) r ≡ record { answer = r.answer; value = r.value; device = device_numbers r.device }
@@ -141,7 +137,7 @@ cycle-of-device part cells d c = by (eqb n 0) refl
     by : (t : Bool) → eqb n 0 ≡ t → let r = (cycle_of part cells d c).reply in
         reply_numbers (device_numbers d) r ≡ record { answer = r.answer; value = r.value; device = device_numbers r.device }
     by true t = rw (t, acted-answers (row_of part) (after_time (row_of part) (chip cells d) c.elapsed) c.wp c.action)
-    by false t = rw (t, lt-ltb 0 n (positive n (eqb-false n 0 t)))
+    by false t = rw (t, lt-ltb 0 n (omega (arith, eqb-false n 0 t)))
 
 -- on the device that the numbers mean
 module _ (part : ℕ) (cells : List ℕ) (n : DeviceNumbers) (c : Cycle) where

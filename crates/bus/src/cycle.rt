@@ -46,8 +46,8 @@ pub struct ReplyNumbers {
     pub device: DeviceNumbers,
 }
 
-// kept: what may not change: which crate owns Mode, where alone a conversion between it and u32 may be an impl
 // The number of a mode.
+// kept: no plainer: Mode and u32 are both of other crates, so no impl of From may stand here, either way
 fn mode_number(mode: Mode) -> u32
     ensures { result ≡ mode_number mode }
 {

@@ -22,7 +22,7 @@ fn send(cells: &mut [u16], p: Played, elapsed: u32, action: Action) -> Played {
         action,
     };
     let r = chip::bus_cycle(8, cells, p.device, cycle);
-    let shown = r.answer as u64 + r.value as u64;
+    let shown = u64::from(r.answer) + u64::from(r.value);
     Played {
         device: r.device,
         sent: p.sent.wrapping_add(1),

@@ -67,8 +67,8 @@ const NO_DRIVER: DriverNumbers = DriverNumbers {
     count: 0,
 };
 
-// kept: what may not change: which crate owns Task, where alone a conversion between it and u32 may be an impl
 // The number of what is driven.
+// kept: no plainer: Task and u32 are both of other crates, so no impl of From may stand here, either way
 fn task_number(task: Task) -> u32
     ensures { result ≡ task_number task }
 {

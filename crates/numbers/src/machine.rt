@@ -68,8 +68,8 @@ pub(crate) const NOTHING_TO_SEND: CycleNumbers = CycleNumbers {
     data: 0,
 };
 
-// kept: what may not change: which crate owns Phase, where alone a conversion between it and u32 may be an impl
 // The number of a phase.
+// kept: no plainer: Phase and u32 are both of other crates, so no impl of From may stand here, either way
 fn phase_number(phase: Phase) -> u32
     ensures { result ≡ phase_number phase }
 {

@@ -28,7 +28,7 @@ fn number<R: Read + Drop>(input: R) -> usize
         };
         let mut n: usize = number.unwrap_or(0);
         if byte.is_ascii_digit() {
-            n = n % 1048576 * 10 + (byte - b'0') as usize;
+            n = n % 1048576 * 10 + usize::from(byte - b'0');
         }
         number = Some(n);
     }
