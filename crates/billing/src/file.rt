@@ -5,7 +5,7 @@ ghost use Rattle.billing.specs.File.{bill_of_file, bill_of_job};
 
 use job::Bill;
 use jobfile::JobFile;
-use parts::names::BAD_FILE;
+use parts::Refusal;
 
 // The bytes of the longest file that is taken.
 const LONGEST: usize = 20480;
@@ -15,15 +15,8 @@ fn refused() -> Bill
     ensures { result ≡ refused_bill 13 }
 {
     Bill {
-        saved: 0,
-        spent: 0,
-        erases: 0,
-        programs: 0,
-        polls: 0,
-        scans: 0,
-        confirms: 0,
-        sum: 0,
-        answer: BAD_FILE,
+        answer: Refusal::BadFile.number(),
+        ..Bill::default()
     }
 }
 

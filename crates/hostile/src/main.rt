@@ -3,7 +3,7 @@
 // ending and the polls, of a step after the end.
 #![tactic(auto)]
 
-use driver::{Next, Step};
+use driver::Step;
 use parts::names::BIT_7;
 use std::io;
 
@@ -70,7 +70,7 @@ fn run(rt: &impl Print, t: Task, replies: u32) -> io::Result<()> {
     let mut read = 0;
     for n in 0..300000 {
         let s = d.step(read);
-        if matches!(s.next, Next::Nothing) {
+        if s.next.is_none() {
             return print_run(rt, t, replies, n, s);
         }
         d = s.driver;

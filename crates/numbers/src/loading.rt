@@ -3,9 +3,10 @@ ghost use Rattle.std.specs.Prelude.{◌≡◌};
 ghost use Rattle.numbers.specs.Loading.{begin_numbers, loading_numbers, loading_of, no_turn, progress_at, sending_level, sending_numbers, stage_at, task_at, task_number, told_turn, turn_numbers, turned_of};
 
 use crate::machine::{CycleNumbers, DriverNumbers, ENDED_DIFFERS, NOTHING_TO_SEND, sent_numbers};
+use device::Cycle;
 use driver::Driver;
-use job::{Begun, LoadTurn, Loader, Loading, Progress, Sending, Stage, Task};
-use parts::names::{BAD_STATE, DIFFERS, GAVE_UP};
+use job::{Begun, LoadTurn, Loader, Loading, Progress, Purpose, Stage, Task};
+use parts::Refusal;
 
 // ---- how far a job is
 const WAITING: u32 = 0;
@@ -195,24 +196,24 @@ pub fn begin_numbers(b: Begun) -> BeginNumbers
 }
 
 // The numbers of what a turn names.
-impl From<Sending> for CycleNumbers {
+impl From<Option<(Purpose, Cycle)>> for CycleNumbers {
     ghost from_gives = { λ x n. n ≡ sending_numbers x };
 
-    fn from(next: Sending) -> CycleNumbers {
+    fn from(next: Option<(Purpose, Cycle)>) -> CycleNumbers {
         match next {
-            Sending::SendsNothing => NOTHING_TO_SEND,
-            Sending::Sends(_, cycle) => sent_numbers(cycle.elapsed, cycle.action),
+            None => NOTHING_TO_SEND,
+            Some((_, cycle)) => sent_numbers(cycle.elapsed, cycle.action),
         }
     }
 }
 
 // WP#'s level at it: 0 where there is none.
-fn sending_level(next: Sending) -> u32
+fn sending_level(next: Option<(Purpose, Cycle)>) -> u32
     ensures { result ≡ sending_level next }
 {
     match next {
-        Sending::SendsNothing => 0,
-        Sending::Sends(_, cycle) => u32::from(cycle.wp),
+        None => 0,
+        Some((_, cycle)) => u32::from(cycle.wp),
     }
 }
 
@@ -245,10 +246,11 @@ fn no_turn(answer: u32, given: LoadingNumbers) -> TurnNumbers
 fn turn_numbers(given: LoadingNumbers, t: LoadTurn) -> TurnNumbers
     ensures { result ≡ turn_numbers given t }
 {
-    match t.answer {
-        0 | GAVE_UP | DIFFERS => told_turn(t),
-        answer => no_turn(answer, given),
+    let answer = t.answer;
+    if answer == 0 || answer == Refusal::GaveUp.number() || answer == Refusal::Differs.number() {
+        return told_turn(t);
     }
+    no_turn(answer, given)
 }
 
 // Given the value last read, names the next cycle or the end: 5 for numbers that are no state in range.
@@ -262,7 +264,7 @@ pub fn turned(
     ensures { (result ≡ (turned_of loading image.now seen.old read).turn) × (seen.new ≡ (turned_of loading image.now seen.old read).seen) }
 {
     if OVER < loading.progress || ENDED_DIFFERS < loading.driver.phase {
-        return no_turn(BAD_STATE, loading);
+        return no_turn(Refusal::BadState.number(), loading);
     }
     turn_numbers(loading, Loading::from(loading).turn(image, seen, read))
 }

@@ -3,8 +3,9 @@ ghost use Rattle.std.specs.Prelude.{◌≡◌};
 ghost use Rattle.numbers.specs.Machine.{driver_numbers, driver_of, next_numbers, phase_at, phase_number, sent_numbers, start_numbers, step_numbers, stepped_of};
 
 use device::Action;
-use driver::{Driver, Next, Phase, Started, Step};
-use parts::names::{A_READ, A_WRITE, BAD_STATE, NO_CYCLE};
+use driver::{Driver, Phase, Started, Step};
+use parts::Refusal;
+use parts::names::{A_READ, A_WRITE, NO_CYCLE};
 
 // ---- the numbers of the phases
 const WRITING: u32 = 0;
@@ -154,13 +155,13 @@ pub(crate) fn sent_numbers(elapsed: u32, action: Action) -> CycleNumbers
 }
 
 // The numbers of what a step names.
-impl From<Next> for CycleNumbers {
+impl From<Option<(u32, Action)>> for CycleNumbers {
     ghost from_gives = { λ x n. n ≡ next_numbers x };
 
-    fn from(next: Next) -> CycleNumbers {
+    fn from(next: Option<(u32, Action)>) -> CycleNumbers {
         match next {
-            Next::Nothing => NOTHING_TO_SEND,
-            Next::Send(elapsed, action) => sent_numbers(elapsed, action),
+            None => NOTHING_TO_SEND,
+            Some((elapsed, action)) => sent_numbers(elapsed, action),
         }
     }
 }
@@ -196,7 +197,7 @@ pub fn stepped(state: DriverNumbers, read: u16) -> StepNumbers
 {
     if ENDED_DIFFERS < state.phase {
         return StepNumbers {
-            answer: BAD_STATE,
+            answer: Refusal::BadState.number(),
             driver: state,
             cycle: NOTHING_TO_SEND,
             polls: 0,
