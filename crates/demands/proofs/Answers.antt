@@ -10,7 +10,7 @@ use Rattle.parts.specs.Pick.{pick}
 use Rattle.parts.specs.Width.{value_of}
 use Rattle.parts.specs.Table.{row_of}
 use Rattle.table.specs.Figures.{figure_of}
-use Rattle.table.specs.declared.figure.Figure.{Figure}
+use Rattle.table.specs.Figures.{Figure}
 use Rattle.parts.specs.declared.table.Row.{Row}
 use Rattle.parts.proofs.Every.{apart, split}
 use Rattle.parts.proofs.Refused.{zero_left, none_first}

@@ -13,7 +13,7 @@ use Rattle.parts.specs.Width.{value_of}
 use Rattle.parts.specs.Table.{no_line, lines, line_of, row_from, row_of, part_refusal, found_of}
 use Rattle.table.specs.Figures.{figure, figure_refusal, figure_of}
 use Rattle.parts.specs.declared.table.Row.{Row}
-use Rattle.table.specs.declared.figure.Figure.{Figure}
+use Rattle.table.specs.Figures.{Figure}
 use Rattle.parts.specs.Table.{Found}
 use Rattle.parts.proofs.Every.{apart, split}
 use Rattle.device.specs.Cycle.{chip, Outcome, after_time, accepted_of, cycle_of}

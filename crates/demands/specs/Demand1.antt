@@ -7,7 +7,7 @@ use Rattle.parts.specs.Names.{BAD-STATE, BAD-FILE, WRONG-CELLS}
 use Rattle.parts.specs.Pick.{◌when◌, ◌else◌, ◌unless◌, ◌or_else◌}
 use Rattle.parts.specs.Table.{no_line, row_from, part_refusal, row_of}
 use Rattle.table.specs.Figures.{figure}
-use Rattle.table.specs.declared.figure.Figure.{Figure}
+use Rattle.table.specs.Figures.{Figure}
 use Rattle.parts.specs.Table.{Found}
 use Rattle.device.specs.Cycle.{Outcome, reply}
 use Rattle.driver.specs.declared.machine.Started.{Started}

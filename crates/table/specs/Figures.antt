@@ -1,8 +1,10 @@
 -- The figures of the part table.
-use Rattle.std.specs.Prelude.{ℕ, List, [], ◌∷◌, eqb, ltb, get_or}
+use Rattle.std.specs.Prelude.{ℕ, Result, Ok, Err, List, [], ◌∷◌, eqb, ltb, get_or}
 use Rattle.parts.specs.Names.{NO-ENTRY}
 use Rattle.parts.specs.Pick.{pick, ◌when◌, ◌else◌, ◌or_else◌}
 use Rattle.parts.specs.Table.{row_of, part_refusal}
+use Rattle.parts.specs.Refused.{number_of}
+use Rattle.parts.specs.declared.refusal.Refusal.{Refusal}
 use Rattle.parts.specs.declared.table.Row.{Row}
 
 -- a figure: 0 or the refusal, and the number
@@ -27,3 +29,8 @@ figure_of part column =
     pick (eqb (figure_refusal part column) 0)
     (figure 0 (get_or (columns (row_of part)) column 0))
     (figure (figure_refusal part column) 0)
+
+-- what the call tells: 0 beside a refusal
+abbrev pub told_figure : Result ℕ Refusal → Figure
+told_figure (Ok n) = figure 0 n
+told_figure (Err e) = figure (number_of e) 0

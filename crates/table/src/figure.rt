@@ -1,7 +1,6 @@
 // The figures of the part table.
-ghost use Rattle.std.specs.Prelude.{◌≡◌, IfOk};
-ghost use Rattle.parts.specs.Refused.{answer_of};
-ghost use Rattle.table.specs.Figures.{figure_of};
+ghost use Rattle.std.specs.Prelude.{◌≡◌};
+ghost use Rattle.table.specs.Figures.{figure_of, told_figure};
 
 use crate::part_row;
 use parts::Refusal;
@@ -9,8 +8,7 @@ use parts::Refusal;
 // The figure of a part in a column, 0 Width to 6 Chip: 1 for a part above 10, 15 for a column above 6.
 #[tactic(auto, unfolding(crate::specs::Figures::figure_of))]
 pub fn part_figure(part: u32, column: u32) -> Result<u32, Refusal>
-    ensures answer { answer_of result ≡ (figure_of part column).answer }
-    ensures value { IfOk result (λ n. n ≡ (figure_of part column).value) }
+    ensures { told_figure result ≡ figure_of part column }
 {
     let row = part_row(part)?;
     let columns = [
