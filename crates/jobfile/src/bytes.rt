@@ -1,5 +1,5 @@
 // Numbers in bytes, little-endian; a byte past the end counts 0.
-ghost use Rattle.std.specs.Prelude.{◌≡◌, drop};
+ghost use Rattle.std.specs.Prelude.{◌≡◌, ℕ, ◌<◌, drop, slice_index};
 ghost use Rattle.jobfile.specs.Bytes.{field};
 
 // The number in one byte.
@@ -10,13 +10,20 @@ pub(crate) fn one_byte(bytes: &[u8], a: usize) -> u8
     bytes.get(a).copied().unwrap_or(0)
 }
 
+// The N bytes from place a on; a byte past the end counts 0.
+fn bytes_at<const N: usize>(bytes: &[u8], a: usize) -> [u8; N]
+    ensures { (i : ℕ) → i < N → slice_index result i ≡ field (drop a bytes.now) i 1 }
+{
+    let rest = bytes_from(bytes, a);
+    std::array::from_fn(|i| one_byte(rest, i))
+}
+
 // The number in two bytes.
 #[tactic(auto, using(crate::proofs::Fields::numbers))]
 pub(crate) fn two_bytes(bytes: &[u8], a: usize) -> u16
     ensures { result ≡ field bytes.now a 2 }
 {
-    let rest = bytes_from(bytes, a);
-    u16::from_le_bytes([one_byte(rest, 0), one_byte(rest, 1)])
+    u16::from_le_bytes(bytes_at(bytes, a))
 }
 
 // The number in four bytes.
@@ -24,13 +31,7 @@ pub(crate) fn two_bytes(bytes: &[u8], a: usize) -> u16
 pub(crate) fn four_bytes(bytes: &[u8], a: usize) -> u32
     ensures { result ≡ field bytes.now a 4 }
 {
-    let rest = bytes_from(bytes, a);
-    u32::from_le_bytes([
-        one_byte(rest, 0),
-        one_byte(rest, 1),
-        one_byte(rest, 2),
-        one_byte(rest, 3),
-    ])
+    u32::from_le_bytes(bytes_at(bytes, a))
 }
 
 // The bytes from place a on: none past the end.
