@@ -34,13 +34,13 @@ fn bill_job(file: &[u8], asked: JobFile) -> Bill
 {
     let mut values = [0u16; 10240];
     let image = &mut values[..asked.count];
-    jobfile::read_image(file, asked.start, &mut *image);
+    jobfile::read_image(file, asked.start, image);
     let mut cells = [0xffffu16; 8192];
     job::load(
         asked.part,
         &mut cells,
         asked.first,
-        &*image,
+        image,
         asked.wp,
         asked.p,
     )

@@ -19,5 +19,5 @@ fn read_values(bytes: &[u8], image: &mut [u16])
 pub fn read_image(file: &[u8], start: usize, image: &mut [u16])
     ensures { image.new ≡ values_of file.now start (length image.old) }
 {
-    read_values(bytes_from(file, start), &mut *image);
+    read_values(bytes_from(file, start), image);
 }
