@@ -15,15 +15,8 @@ fn refused() -> Bill
     ensures { result ≡ refused_bill 13 }
 {
     Bill {
-        saved: 0,
-        spent: 0,
-        erases: 0,
-        programs: 0,
-        polls: 0,
-        scans: 0,
-        confirms: 0,
-        sum: 0,
         answer: BAD_FILE,
+        ..Bill::default()
     }
 }
 
