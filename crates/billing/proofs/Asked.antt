@@ -52,3 +52,5 @@ module _ (file : List ℕ) (j : JobFile) (asked : j ≡ job_of file) (short : le
   -- it has at most 10,232 values
   pub few-values : j.answer ≤ 0 → j.count ≤ 10240
   few-values h = omega (arith, image-ends file (is-sound file (good h)), ap (λ (k : JobFile). k.count) asked)
+
+pub ruleset files = (too_long, wrong-file, right-file, few-values)

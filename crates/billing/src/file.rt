@@ -1,5 +1,5 @@
 // The bill of a job file: refused with 13, or that of its job on a blank bench part.
-ghost use Rattle.std.specs.Prelude.{◌≡◌, ◌≤◌, length};
+ghost use Rattle.std.specs.Prelude.{◌≡◌, ◌≤◌};
 ghost use Rattle.job.specs.Bill.{refused_bill};
 ghost use Rattle.billing.specs.File.{bill_of_file, bill_of_job};
 
@@ -20,33 +20,27 @@ fn refused() -> Bill
     }
 }
 
-// The job that a file asks for, on a blank bench part; its image is read into the lent values.
-fn bill_image(file: &[u8], asked: JobFile, image: &mut [u16]) -> Bill
-    requires { length image.old ≡ asked.count }
+// The bill of the job that a file asks for, on a blank bench part.
+fn bill_job(file: &[u8], asked: JobFile) -> Bill
+    requires { asked.count ≤ 10240 }
     ensures { result ≡ bill_of_job file.now asked }
 {
-    jobfile::read_image(file, asked.start, &mut *image);
+    let mut values = [0u16; 10240];
+    let image = &mut values[..asked.count];
+    jobfile::read_image(file, asked.start, image);
     let mut cells = [0xffffu16; 8192];
     job::load(
         asked.part,
         &mut cells,
         asked.first,
-        &*image,
+        image,
         asked.wp,
         asked.p,
     )
 }
 
-// The same, in values that have room for the image.
-fn bill_job(file: &[u8], asked: JobFile, values: &mut [u16]) -> Bill
-    requires { asked.count ≤ length values.old }
-    ensures { result ≡ bill_of_job file.now asked }
-{
-    let count = asked.count;
-    bill_image(file, asked, &mut values[..count])
-}
-
 // The bill of a job file: 13 for one of more than 20,480 bytes or malformed; then the job's own refusals.
+#[tactic(auto, using(crate::proofs::Asked::files))]
 pub fn bill_file(file: &[u8]) -> Bill
     ensures { result ≡ bill_of_file file.now }
 {
@@ -57,6 +51,5 @@ pub fn bill_file(file: &[u8]) -> Bill
     if 0 < asked.answer {
         return refused();
     }
-    let mut values = [0u16; 10240];
-    bill_job(file, asked, &mut values)
+    bill_job(file, asked)
 }

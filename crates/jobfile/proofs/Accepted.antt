@@ -4,7 +4,7 @@ use mathlib.Core.Bool.{Bool, true, false}
 use mathlib.Core.List.{List, [], ◌∷◌}
 use Prim.Native.Nat.{ℕ, zero, suc, ◌+◌, ◌-◌, ◌*◌, ◌%◌, ◌≤◌}
 use native.Mathlib.Omega.{arith}
-use borrow.Author.Tests.{ltb-false, eqb-false, le-ltb, ne_eqb}
+use borrow.Author.Tests.{ltb-false, eqb-false, lt-ltb, le-ltb, ne_eqb}
 use lib.Dec.{eqb, ltb}
 use lib.ListN.{length, take, drop, length-drop}
 use Rattle.parts.specs.Pick.{pick}
@@ -48,6 +48,12 @@ is_right t before h =
       even = not-odd (distance_of t) e.0;
       in-front = ltb-false _ _ e.1;
     }
+
+-- what the reader needs of a trailer that is not wrong
+pub distance-in-front : (t : List ℕ) (before : ℕ) → wrong t before ≡ false → distance_of t ≤ before
+distance-in-front t before h = (is_right t before h).in-front
+
+pub ruleset reads = (distance-in-front, lt-ltb, le-ltb)
 
 not-wrong : (t : List ℕ) (before : ℕ) → RightTrailer t before → wrong t before ≡ false
 unfolding wrong

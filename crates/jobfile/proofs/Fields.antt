@@ -1,11 +1,11 @@
--- Laws of a number in bytes: a single byte, two parts of a number, and a number past the end.
+-- Laws of a number in bytes: a single byte, two parts of a number, and two and four bytes by each of theirs.
 use mathlib.Core.Path.{◌≡◌, refl, ap, ◌∙◌}
 use mathlib.Core.List.{List, [], ◌∷◌}
-use Prim.Native.Nat.{ℕ, zero, suc, ◌+◌, ◌*◌, ◌-◌, ◌^◌, ◌≤◌}
+use Prim.Native.Nat.{ℕ, zero, suc, ◌+◌, ◌*◌, ◌^◌}
 use native.Mathlib.Nat.{zero-add, suc-add, mul-zero, mul_comm, mul_assoc, pow-suc}
 use native.Mathlib.Omega.{arith}
-use lib.ListN.{length, get_or, take, drop, length-drop, drop_of_length-le}
-use lib.Seq.{take_all, take-nil, drop-drop}
+use lib.ListN.{get_or, take, drop}
+use lib.Seq.{take-nil, drop-drop}
 use Rattle.jobfile.specs.Bytes.{number, field}
 
 -- the first bytes of a number and, above them, the others
@@ -30,16 +30,24 @@ field-one [] (suc a) = refl
 field-one (x ∷ xs) zero = omega arith
 field-one (x ∷ xs) (suc a) = field-one xs a
 
--- past the end
-pub field_past : (bytes : List ℕ) (a n : ℕ) → length bytes ≤ a → field bytes a n ≡ 0
-unfolding number field
-field_past bytes a n h = simp (drop_of_length-le bytes h, take-nil)
-
 -- in the bytes from place b on
 pub field-from : (bytes : List ℕ) (b a n : ℕ) → field (drop b bytes) a n ≡ field bytes (b + a) n
 unfolding field
 field-from bytes b a n = rw (drop-drop a b bytes)
 
--- a part of the bytes that goes to their end
-pub to_the_end : (a : ℕ) (bytes : List ℕ) → take (length bytes - a) (drop a bytes) ≡ drop a bytes
-to_the_end a bytes = take_all (length bytes - a) (drop a bytes) (omega (arith, length-drop a bytes))
+-- two bytes and four, each by itself
+pub field-two : (bytes : List ℕ) (a : ℕ) → field bytes a 2 ≡ field (drop a bytes) 0 1 + 256 * field (drop a bytes) 1 1
+field-two bytes a =
+    let e : a + 0 ≡ a = omega arith in
+    rw (field-from bytes a 0 1, field-from bytes a 1 1, e) (omega (arith, field-split bytes a 1 1))
+
+pub field-four : (bytes : List ℕ) (a : ℕ)
+    → field bytes a 4 ≡ field (drop a bytes) 0 1 + 256 * field (drop a bytes) 1 1 + 65536 * field (drop a bytes) 2 1 + 16777216 * field (drop a bytes) 3 1
+field-four bytes a =
+    let e : a + 0 ≡ a = omega arith in
+    let f : a + 2 + 1 ≡ a + 3 = omega arith in
+    let upper : field bytes (a + 2) 2 ≡ field bytes (a + 2) 1 + 256 * field bytes (a + 3) 1 = omega (arith, rw f at (field-split bytes (a + 2) 1 1)) in
+    rw (field-from bytes a 0 1, field-from bytes a 1 1, field-from bytes a 2 1, field-from bytes a 3 1, e)
+    (omega (arith, field-split bytes a 2 2, field-split bytes a 1 1, upper))
+
+pub ruleset numbers = (field-one, field-two, field-four)

@@ -46,3 +46,10 @@ module _ (bytes image : List ℕ) where
 
   pub written_all : (i : ℕ) → i ≤ length image → length image ≤ i → written i ≡ values_of bytes 0 (length image)
   written_all i l h = rw (drop_of_length-le image h, append-nil, le_antisymm l h)
+
+pub ruleset writes = (written-more, written_all)
+
+pub values-begin : (file : List ℕ) (b n : ℕ) → values_of (drop b file) 0 n ≡ values_of file b n
+values-begin file b n = let e : b + 0 ≡ b = omega arith in values-from file b 0 n ∙ rw e
+
+pub ruleset begins = (values-begin)

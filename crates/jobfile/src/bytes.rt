@@ -1,46 +1,42 @@
 // Numbers in bytes, little-endian; a byte past the end counts 0.
-ghost use Rattle.std.specs.Prelude.{◌≡◌, ◌+◌, ◌≤◌, length, drop};
+ghost use Rattle.std.specs.Prelude.{◌≡◌, ℕ, ◌<◌, drop, slice_index};
 ghost use Rattle.jobfile.specs.Bytes.{field};
 
 // The number in one byte.
+#[tactic(auto, using(crate::proofs::Fields::numbers))]
 pub(crate) fn one_byte(bytes: &[u8], a: usize) -> u8
     ensures { result ≡ field bytes.now a 1 }
 {
-    if bytes.len() <= a {
-        return 0;
-    }
-    bytes[a]
+    bytes.get(a).copied().unwrap_or(0)
+}
+
+// The N bytes from place a on; a byte past the end counts 0.
+fn bytes_at<const N: usize>(bytes: &[u8], a: usize) -> [u8; N]
+    ensures { (i : ℕ) → i < N → slice_index result i ≡ field (drop a bytes.now) i 1 }
+{
+    let rest = bytes_from(bytes, a);
+    std::array::from_fn(|i| one_byte(rest, i))
 }
 
 // The number in two bytes.
+#[tactic(auto, using(crate::proofs::Fields::numbers))]
 pub(crate) fn two_bytes(bytes: &[u8], a: usize) -> u16
     ensures { result ≡ field bytes.now a 2 }
 {
-    if bytes.len() <= a {
-        return 0;
-    }
-    let low = one_byte(bytes, a);
-    let high = one_byte(bytes, a + 1);
-    low as u16 + 256 * (high as u16)
+    u16::from_le_bytes(bytes_at(bytes, a))
 }
 
-// The number in four bytes, which are there.
+// The number in four bytes.
+#[tactic(auto, using(crate::proofs::Fields::numbers))]
 pub(crate) fn four_bytes(bytes: &[u8], a: usize) -> u32
-    requires { a + 4 ≤ length bytes.now }
     ensures { result ≡ field bytes.now a 4 }
 {
-    let low = two_bytes(bytes, a);
-    let high = two_bytes(bytes, a + 2);
-    low as u32 + 65536 * (high as u32)
+    u32::from_le_bytes(bytes_at(bytes, a))
 }
 
 // The bytes from place a on: none past the end.
 pub(crate) fn bytes_from(bytes: &[u8], a: usize) -> &[u8]
     ensures { result.now ≡ drop a bytes.now }
 {
-    let n = bytes.len();
-    if n <= a {
-        return &bytes[n..];
-    }
-    &bytes[a..]
+    bytes.get(a..).unwrap_or(&[])
 }

@@ -1,4 +1,4 @@
-// The numbers of document 01 by name: commands, stages of a write sequence, kinds of a last cycle, bits 7, 6 and 2, the codes of suspend and resume, and the table of refusals.
+// The numbers of document 01 by name: commands, stages of a write sequence, kinds of a last cycle, bits 7, 6 and 2, and the codes of suspend and resume. The refusals are an enum of their own.
 
 // ---- commands
 // program
@@ -47,35 +47,3 @@ pub const BIT_2: u16 = 4;
 pub const SUSPEND_CODE: u16 = 0xb0;
 // resume, 30H
 pub const RESUME_CODE: u16 = 0x30;
-
-// ---- refusals
-// part above 10
-pub const NO_PART: u32 = 1;
-// lent cells are not the part's number
-pub const WRONG_CELLS: u32 = 2;
-// address at or past the cells
-pub const NO_ADDRESS: u32 = 3;
-// data above 255 on an eight-bit part
-pub const WIDE_DATA: u32 = 4;
-// a state out of range for its part
-pub const BAD_STATE: u32 = 5;
-// first or count not a multiple of the sector
-pub const NOT_SECTORS: u32 = 6;
-// first + count past the cells
-pub const PAST_CELLS: u32 = 7;
-// image value above 255, eight-bit part
-pub const WIDE_IMAGE: u32 = 8;
-// WP# low and the range holds a protected cell
-pub const PROTECTED: u32 = 9;
-// p is 0 or above 1,000
-pub const BAD_INTERVAL: u32 = 10;
-// polling gave up
-pub const GAVE_UP: u32 = 11;
-// confirming read differs
-pub const DIFFERS: u32 = 12;
-// job file malformed or too long
-pub const BAD_FILE: u32 = 13;
-// command above 3, or block erase asked of parts 1 to 3
-pub const NO_COMMAND: u32 = 14;
-// k past the command's writes, or figure above 6
-pub const NO_ENTRY: u32 = 15;

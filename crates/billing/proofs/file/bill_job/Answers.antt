@@ -1,12 +1,10 @@
-use mathlib.Core.Path.{sym}
-use native.Mathlib.Omega.{arith}
+use Rattle.std.proofs.Common.{replicate, arith, ℕ}
 use lib.Seq.{length-take-le}
+use Rattle.std.proofs.lemmas.List.{length-replicate}
+use Rattle.billing.proofs.Asked.{of_values}
 use Rattle.billing.proofs.file.bill_job.Goals as goal
 
-pub bill_image-requires : goal.bill_image-requires
-bill_image-requires c = let given = c.args in length-take-le given.asked.count given.values.now (omega arith)
-
-pub slice_bounds-bill_image-end-2 : goal.slice_bounds-bill_image-end-2
-slice_bounds-bill_image-end-2 c =
+pub returns : goal.returns
+returns c =
     let given = c.args in
-    sym (length-take-le given.asked.count given.values.now (omega arith))
+    of_values given.file.now given.asked _ _ _ (length-take-le given.asked.count (replicate 10240 0) (omega (arith, length-replicate {A = ℕ} 10240 0))) c.read_image.ensures c.load.ensures.0
