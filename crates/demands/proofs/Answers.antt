@@ -9,8 +9,7 @@ use lib.ListN.{get_or}
 use Rattle.parts.specs.Pick.{pick}
 use Rattle.parts.specs.Width.{value_of}
 use Rattle.parts.specs.Table.{row_of}
-use Rattle.table.specs.Figures.{figure_of}
-use Rattle.table.specs.Figures.{Figure}
+use Rattle.table.specs.Figures.{Figure, figure_of}
 use Rattle.parts.specs.declared.table.Row.{Row}
 use Rattle.parts.proofs.Every.{apart, split}
 use Rattle.parts.proofs.Refused.{zero_left, none_first}
@@ -18,13 +17,13 @@ use Rattle.driver.specs.declared.machine.Phase.{Phase}
 use Rattle.driver.specs.declared.machine.Phase.TheVariants.{Writing, Polling, Confirming, Done, GaveUp, Differs}
 use Rattle.driver.specs.declared.machine.Driver.{Driver}
 use Rattle.driver.specs.declared.machine.Step.{Step}
-use Rattle.driver.specs.declared.writes.Kth.{Kth}
 use Rattle.driver.specs.Refusals.{command_refusal}
-use Rattle.driver.specs.Writes.{no_write, write_count, writes_of, writes, command_writes, kth, kth_write}
+use Rattle.table.proofs.Told.{row-told}
+use Rattle.driver.specs.Writes.{no_write, write_count, writes_of, writes, command_writes, Kth, kth, kth_write}
 use Rattle.driver.specs.Machine.{start_of, step_of, phase_of, writing_of, polling_of, confirming_of, matches, most_polls, polls, ended, value_wanted, in_range, writing}
 use Rattle.driver.proofs.Places.{place_at}
 use Rattle.jobfile.specs.JobFile.{job_of}
-use Rattle.demands.specs.Calls.{StepCall, to_step, WritesCall, ToWrite, to_write, KthCall, kth_asked, refused_kth, row_asked}
+use Rattle.demands.specs.Calls.{StepCall, to_step, WritesCall, ToWrite, to_write, KthCall, kth_asked, refused_kth, row_asked, kth_told, writes_told}
 use Rattle.demands.specs.Answers.{without_k, Answers}
 
 -- one test decides, and it passes
@@ -57,24 +56,24 @@ unfolding write_count
 few-writes command k = split (λ (n : ℕ). k < n → k < 6) (eqb command 0) 4 6 (λ _ l. omega arith) (λ _ l. omega arith)
 
 among : (c : KthCall) (w : WritesCall) → let g = kth_asked c.given in without_k g ≡ to_write w → refused_kth g ≡ 0
-    → c.back ≡ kth 0 (get_or w.back.writes g.k no_write)
+    → kth_told c ≡ kth 0 (get_or (writes_told w).writes g.k no_write)
 unfolding kth_write command_writes
 among c w e z =
     let g = kth_asked c.given in
     let f = none_first (command_refusal g.part g.command g.address g.word) _ z in
     let k = few-writes g.command g.k (ltb-true _ _ (zero_left (ltb g.k (write_count g.command)) 0 14 f.1).0) in
     let ws = writes_of (row_of g.part) g.command g.address g.word in
-    let t : w.back ≡ writes 0 (write_count g.command) ws =
+    let t : writes_told w ≡ writes 0 (write_count g.command) ws =
     w.promise
     ∙ (ap (λ (t : ToWrite). command_writes t.part t.command t.address t.word) (sym e)
     ∙ taken (command_refusal g.part g.command g.address g.word) _ _ f.0) in
-    c.promise ∙ (taken (refused_kth g) _ _ z ∙ ap (kth 0) (sym (place_at w.back 0 (write_count g.command) ws g.k t k)))
+    c.promise ∙ (taken (refused_kth g) _ _ z ∙ ap (kth 0) (sym (place_at (writes_told w) 0 (write_count g.command) ws g.k t k)))
 
 pub answers : Answers
 unfolding figure_of kth_write command_writes start_of job_of Polled
 answers =
     record {
-      row-given = λ c z. c.promise ∙ ap (λ (n : ℕ). record { answer = n; row = row_of (row_asked c).part }) z;
+      row-given = λ c z. row-told c.back (row_asked c).part c.promise.0 c.promise.1 ∙ ap (λ (n : ℕ). record { answer = n; row = row_of (row_asked c).part }) z;
       figure-given = λ c z. c.promise ∙ taken _ _ _ z;
       station-figure-given = λ c z. c.promise ∙ ap (λ (f : Figure). f.value) (taken _ _ _ z);
       writes-given = λ c z. c.promise ∙ taken _ _ _ z;

@@ -7,7 +7,7 @@ use Rattle.table.specs.Figures.{figure, columns}
 use Rattle.driver.specs.Writes.{no_write, write_count, writes_of, writes, kth}
 use Rattle.driver.specs.Machine.{begun, in_range, writing}
 use Rattle.jobfile.specs.JobFile.{malformed, trailer_of, asked, values_of}
-use Rattle.demands.specs.Calls.{StartCall, to_start, refused_start, StepCall, to_step, WritesCall, ToWrite, to_write, refused_writes, KthCall, StationAddressCall, StationDataCall, KthAsked, kth_asked, refused_kth, RowCall, row_asked, FigureCall, StationFigureCall, FigureAsked, figure_asked, refused_figure, FileCall, to_read, ImageCall, to_read_image, image_left}
+use Rattle.demands.specs.Calls.{StartCall, to_start, refused_start, StepCall, to_step, WritesCall, ToWrite, to_write, writes_told, refused_writes, KthCall, kth_told, StationAddressCall, StationDataCall, KthAsked, kth_asked, refused_kth, RowCall, row_asked, row_told, FigureCall, figure_told, StationFigureCall, FigureAsked, figure_asked, refused_figure, FileCall, to_read, ImageCall, to_read_image, image_left}
 
 -- the entry of a part's line in a column
 abbrev pub entry : FigureAsked → ℕ
@@ -20,19 +20,19 @@ without_k g = record { part = g.part; command = g.command; address = g.address; 
 pub record Answers : Type 0 where
   -- A part's row and figures are its line of the table.
   pub row-given : (c : RowCall) → let n = (row_asked c).part in part_refusal n ≡ 0
-      → c.back ≡ record { answer = 0; row = row_of n }
-  pub figure-given : (c : FigureCall) → let g = figure_asked c.given in refused_figure g ≡ 0 → c.back ≡ figure 0 (entry g)
+      → row_told c ≡ record { answer = 0; row = row_of n }
+  pub figure-given : (c : FigureCall) → let g = figure_asked c.given in refused_figure g ≡ 0 → figure_told c ≡ figure 0 (entry g)
   pub station-figure-given : (c : StationFigureCall) → let g = figure_asked c.given in refused_figure g ≡ 0 → c.back ≡ entry g
   -- A command's writes together: their number, and they in six places.
   pub writes-given : (c : WritesCall) → let g = to_write c in refused_writes g ≡ 0
-      → c.back ≡ writes 0 (write_count g.command) (writes_of (row_of g.part) g.command g.address g.word)
+      → writes_told c ≡ writes 0 (write_count g.command) (writes_of (row_of g.part) g.command g.address g.word)
   -- The k-th write is the k-th of them, from 0.
   pub kth-given : (c : KthCall) → let g = kth_asked c.given in refused_kth g ≡ 0
       → let w = get_or (writes_of (row_of g.part) g.command g.address g.word) g.k no_write in
-      c.back ≡ record { answer = 0; address = w.address; «data» = w.«data» }
+      kth_told c ≡ record { answer = 0; address = w.address; «data» = w.«data» }
   -- So it is the k-th of the writes that are returned together, where both are asked of the same command.
   pub kth-among : (c : KthCall) (w : WritesCall) → let g = kth_asked c.given in without_k g ≡ to_write w → refused_kth g ≡ 0
-      → c.back ≡ kth 0 (get_or w.back.writes g.k no_write)
+      → kth_told c ≡ kth 0 (get_or (writes_told w).writes g.k no_write)
   pub station-address-given : (c : StationAddressCall) → let g = kth_asked c.given in refused_kth g ≡ 0
       → c.back ≡ (get_or (writes_of (row_of g.part) g.command g.address g.word) g.k no_write).address
   pub station-data-given : (c : StationDataCall) → let g = kth_asked c.given in refused_kth g ≡ 0

@@ -7,7 +7,8 @@ use borrow.Fn.Kinds.{ParamKind, ResultKind, Out, Dens, ended_of, res_t}
 use denote.Triple.Clauses.{AtExit}
 use Rattle.parts.specs.Names.{BAD-FILE}
 use Rattle.parts.specs.Pick.{◌when◌, ◌else◌}
-use Rattle.table.specs.Figures.{figure_refusal}
+use Rattle.parts.specs.Table.{Found, told_row}
+use Rattle.table.specs.Figures.{Figure, figure_refusal, told_figure}
 use Rattle.table.proofs.part_row.Kinds as row-kinds
 use Rattle.table.proofs.part_row.Reads as row_reads
 use Rattle.table.proofs.part_figure.Kinds as figure-kinds
@@ -19,7 +20,7 @@ use Rattle.chip.proofs.bus_cycle.Kinds as bus-kinds
 use Rattle.chip.proofs.bus_cycle.Reads as bus-reads
 use Rattle.driver.specs.declared.machine.Driver.{Driver}
 use Rattle.driver.specs.Refusals.{command_refusal, start_refusal}
-use Rattle.driver.specs.Writes.{kth_refusal}
+use Rattle.driver.specs.Writes.{Writes, Kth, kth_refusal, told_writes, told_write}
 use Rattle.driver.specs.Talk.{Stepping, InTypes}
 use Rattle.driver.proofs.start.Kinds as start-kinds
 use Rattle.driver.proofs.start.Reads as start-reads
@@ -146,6 +147,10 @@ pub record ToWrite : Type 0 where
 abbrev pub to_write : WritesCall → ToWrite
 to_write c = let a = c.given in record { part = a.0; command = a.1.0; address = a.1.1.0; word = a.1.1.1.0 }
 
+-- what it tells: 0 or the refusal, how many they are, and the writes
+abbrev pub writes_told : WritesCall → Writes
+writes_told c = told_writes c.back
+
 -- its refusal: 1, 14, 3, 4
 abbrev pub refused_writes : ToWrite → ℕ
 refused_writes g = command_refusal g.part g.command g.address g.word
@@ -172,6 +177,10 @@ pub record KthAsked : Type 0 where
 
 abbrev pub kth_asked : {A : Type 0} → ℕ × (ℕ × (ℕ × (ℕ × (ℕ × A)))) → KthAsked
 kth_asked a = record { part = a.0; command = a.1.0; address = a.1.1.0; word = a.1.1.1.0; k = a.1.1.1.1.0 }
+
+-- what it tells: 0 or the refusal, and the write
+abbrev pub kth_told : KthCall → Kth
+kth_told c = told_write c.back
 
 -- its refusal: 1, 14, 3, 4, 15
 abbrev pub refused_kth : KthAsked → ℕ
@@ -286,6 +295,10 @@ pub record RowAsked : Type 0 where
 abbrev pub row_asked : RowCall → RowAsked
 row_asked c = record { part = c.given.0 }
 
+-- what it tells: 0 or the refusal, and the row
+abbrev pub row_told : RowCall → Found
+row_told c = told_row c.back
+
 -- ---- part_figure(part, column); and the C controller's station_figure and station_figure_answer of the same
 abbrev pub FigureCall : Type 0
 FigureCall = Call 0 figure-kinds.ps figure-kinds.r figure-reads.Post
@@ -302,6 +315,10 @@ pub record FigureAsked : Type 0 where
 
 abbrev pub figure_asked : {A : Type 0} → ℕ × (ℕ × A) → FigureAsked
 figure_asked a = record { part = a.0; column = a.1.0 }
+
+-- what it tells: 0 or the refusal, and the number
+abbrev pub figure_told : FigureCall → Figure
+figure_told c = told_figure c.back
 
 -- its refusal: 1, 15
 abbrev pub refused_figure : FigureAsked → ℕ

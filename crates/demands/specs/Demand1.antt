@@ -5,17 +5,13 @@
 use Rattle.std.specs.Prelude.{ℕ, ◌≡◌, true, false, [], eqb, length, None}
 use Rattle.parts.specs.Names.{BAD-STATE, BAD-FILE, WRONG-CELLS}
 use Rattle.parts.specs.Pick.{◌when◌, ◌else◌, ◌unless◌, ◌or_else◌}
-use Rattle.parts.specs.Table.{no_line, row_from, part_refusal, row_of}
-use Rattle.table.specs.Figures.{figure}
-use Rattle.table.specs.Figures.{Figure}
-use Rattle.parts.specs.Table.{Found}
+use Rattle.parts.specs.Table.{Found, no_line, row_from, part_refusal, row_of}
+use Rattle.table.specs.Figures.{Figure, figure}
 use Rattle.device.specs.Cycle.{Outcome, reply}
 use Rattle.driver.specs.declared.machine.Started.{Started}
 use Rattle.driver.specs.declared.machine.Driver.{Driver}
 use Rattle.driver.specs.declared.machine.Step.{Step}
-use Rattle.driver.specs.declared.writes.Writes.{Writes}
-use Rattle.driver.specs.declared.writes.Kth.{Kth}
-use Rattle.driver.specs.Writes.{no_write, writes, kth}
+use Rattle.driver.specs.Writes.{no_write, Writes, writes, Kth, kth}
 use Rattle.driver.specs.Machine.{no_driver, in_range, step}
 use Rattle.bus.specs.Cycle.{Cycled}
 use Rattle.job.specs.declared.bill.Bill.{Bill}
@@ -26,7 +22,7 @@ use Rattle.numbers.specs.declared.machine.DriverNumbers.{DriverNumbers}
 use Rattle.numbers.specs.declared.machine.StartNumbers.{StartNumbers}
 use Rattle.numbers.specs.declared.machine.StepNumbers.{StepNumbers}
 use Rattle.numbers.specs.Machine.{driver_numbers, no_driver_state}
-use Rattle.demands.specs.Calls.{BusCall, on_bus, bus_left, refused_cycle, StartCall, StartWritingCall, to_start, refused_start, StepCall, to_step, WritesCall, to_write, refused_writes, KthCall, StationAddressCall, StationDataCall, StationWriteCall, kth_asked, refused_kth, LoadCall, LoadFirstCall, to_load, to_load_first, load_left, load_first_left, refused_job, RowCall, row_asked, FigureCall, StationFigureCall, StationFigureAnswerCall, figure_asked, refused_figure, FileCall, to_read, BillFileCall, to_bill, refused_file}
+use Rattle.demands.specs.Calls.{BusCall, on_bus, bus_left, refused_cycle, StartCall, StartWritingCall, to_start, refused_start, StepCall, to_step, WritesCall, to_write, writes_told, refused_writes, KthCall, kth_told, StationAddressCall, StationDataCall, StationWriteCall, kth_asked, refused_kth, LoadCall, LoadFirstCall, to_load, to_load_first, load_left, load_first_left, refused_job, RowCall, row_asked, row_told, FigureCall, figure_told, StationFigureCall, StationFigureAnswerCall, figure_asked, refused_figure, FileCall, to_read, BillFileCall, to_bill, refused_file}
 use Rattle.demands.specs.Controller.{StationStartCall, StationStepCall, numbers_to_step, numbers_in_range, StationBusCall, on_station, station_left, meant, no_device}
 use Rattle.demands.specs.Controller.{StationLoadCall, StationLoadFirstCall, station_to_load, station_to_load_first, station_load_left, station_load_first_left}
 use Rattle.demands.specs.Controller.{StationJobCall, station_to_read, StationBillCall, station_to_bill}
@@ -65,10 +61,10 @@ pub record Demand1 : Type 0 where
       → (e : StepCall) → (to_step e).driver ≡ c.back.driver → e.back ≡ step BAD-STATE c.back.driver None 0
   -- A refused command's writes: its number, no write, and six places of zeros.
   pub writes-refuses : (c : WritesCall) → let n = refused_writes (to_write c) in
-      Refuses Writes c.back.answer n c.back (writes n 0 [])
+      Refuses Writes (writes_told c).answer n (writes_told c) (writes n 0 [])
   -- A refused k-th write: its number, and zeros for the write.
   pub kth-write-refuses : (c : KthCall) → let n = refused_kth (kth_asked c.given) in
-      Refuses Kth c.back.answer n c.back (kth n no_write)
+      Refuses Kth (kth_told c).answer n (kth_told c) (kth n no_write)
   -- A refused job answers its number in a bill of zeros, and leaves the cells as they came.
   pub load-refuses : (c : LoadCall) → let j = to_load c in let n = refused_job j in
       Refuses Loaded c.back.answer n (load_left c) (record { cells = j.cells; bill = refused_bill n })
@@ -77,10 +73,10 @@ pub record Demand1 : Type 0 where
       Refuses Reported c.back.answer n (load_first_left c) (record { cells = j.cells; report = refused_report n })
   -- A refused part's row: its number, and a row of zeros.
   pub row-refuses : (c : RowCall) → let n = part_refusal (row_asked c).part in
-      Refuses Found c.back.answer n c.back (record { answer = n; row = row_from no_line })
+      Refuses Found (row_told c).answer n (row_told c) (record { answer = n; row = row_from no_line })
   -- A refused figure: its number, and 0 for the figure.
   pub figure-refuses : (c : FigureCall) → let n = refused_figure (figure_asked c.given) in
-      Refuses Figure c.back.answer n c.back (figure n 0)
+      Refuses Figure (figure_told c).answer n (figure_told c) (figure n 0)
   -- A job file: 13 exactly for a malformed one, with zeros beside it.
   pub file-refuses : (c : FileCall) → let n = BAD-FILE when malformed (to_read c).file else 0 in
       Refuses JobFile c.back.answer n c.back refused

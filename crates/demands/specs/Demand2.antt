@@ -29,7 +29,7 @@ use Rattle.driver.specs.Machine.{address_of, bit_seven, value_wanted, begun, mov
 use Rattle.driver.specs.Talk.{Stepping, write_cycles, operation_cycles, operation_of, completed, shown_after, shows, Told, told, talk, heard}
 use Rattle.driver.specs.Endings.{MustRaise, MustRaiseSeven, Ended, Meaning}
 use Rattle.bus.specs.Cycle.{high, device_numbers}
-use Rattle.demands.specs.Calls.{BusCall, on_bus, bus_left, refused_cycle, WritesCall, to_write, refused_writes, StartCall, ToStart, to_start, refused_start, StepCall, to_step, AsPromised}
+use Rattle.demands.specs.Calls.{BusCall, on_bus, bus_left, refused_cycle, WritesCall, to_write, writes_told, refused_writes, StartCall, ToStart, to_start, refused_start, StepCall, to_step, AsPromised}
 use Rattle.numbers.specs.Machine.{driver_of, stepped_of}
 use Rattle.numbers.specs.Loop.{told_numbers, loop, heard_numbers, loop_hearing}
 use Rattle.demands.specs.Controller.{StationBusCall, on_station, station_left, meant, StationStartCall}
@@ -175,12 +175,12 @@ pub record Demand2 : Type 0 where
   -- whole table time left.
   pub writes-run : (c : WritesCall) → let g = to_write c in refused_writes g ≡ 0
       → (cells : List ℕ) (d : Device) (wp : Bool) → IdleUnprotected g.part g.command g.address cells d wp
-      → play g.part (chip cells d) (write_cycles wp (take c.back.count c.back.writes))
+      → play g.part (chip cells d) (write_cycles wp (take (writes_told c).count (writes_told c).writes))
       ≡ chip cells (device (busy_with d.core (operation_of (row_of g.part) g.command g.address g.word)) 0)
   -- And they start that operation and no other.
   pub writes_start : (c : WritesCall) → let g = to_write c in refused_writes g ≡ 0
       → (cells : List ℕ) (d : Device) (wp : Bool) → IdleUnprotected g.part g.command g.address cells d wp
-      → started_in g.part (chip cells d) (write_cycles wp (take c.back.count c.back.writes))
+      → started_in g.part (chip cells d) (write_cycles wp (take (writes_told c).count (writes_told c).writes))
       ≡ operation_of (row_of g.part) g.command g.address g.word ∷ []
   -- The cycles that a started driver names start the operation asked for and no other, whatever the cells hold.
   pub driver-starts : (s : StartedDriver) → let g = start_asked s in (h : ChipFor g)

@@ -23,12 +23,12 @@ use Rattle.values.proofs.sum.Kinds as sum-kinds
 use Rattle.values.proofs.sum.Reads as sum-reads
 use Rattle.values.proofs.all_fit.Kinds as all-fit-kinds
 use Rattle.values.proofs.all_fit.Reads as all-fit-reads
-use Rattle.request.proofs.job_refusal.Kinds as job-refusal-kinds
-use Rattle.request.proofs.job_refusal.Reads as job-refusal-reads
-use Rattle.request.proofs.begin_refusal.Kinds as begin-refusal-kinds
-use Rattle.request.proofs.begin_refusal.Reads as begin-refusal-reads
-use Rattle.request.proofs.standing_refusal.Kinds as standing-refusal-kinds
-use Rattle.request.proofs.standing_refusal.Reads as standing-refusal-reads
+use Rattle.request.proofs.check_job.Kinds as check-job-kinds
+use Rattle.request.proofs.check_job.Reads as check-job-reads
+use Rattle.request.proofs.check_begin.Kinds as check-begin-kinds
+use Rattle.request.proofs.check_begin.Reads as check-begin-reads
+use Rattle.request.proofs.check_standing.Kinds as check-standing-kinds
+use Rattle.request.proofs.check_standing.Reads as check-standing-reads
 use Rattle.parts.proofs.span.Span.holds.Kinds as span-holds-kinds
 use Rattle.parts.proofs.span.Span.holds.Reads as span-holds-reads
 use Rattle.parts.proofs.table.Row.sector_size.Kinds as sector-size-kinds
@@ -168,9 +168,9 @@ pub record Unique : Type 0 where
   pub sum : OneResult 1 sum-kinds.ps sum-kinds.r sum-reads.Post
   pub all_fit : OneResult 1 all-fit-kinds.ps all-fit-kinds.r all-fit-reads.Post
   -- the refusals of a job
-  pub job-refusal : OneResult 1 job-refusal-kinds.ps job-refusal-kinds.r job-refusal-reads.Post
-  pub begin-refusal : OneResult 1 begin-refusal-kinds.ps begin-refusal-kinds.r begin-refusal-reads.Post
-  pub standing-refusal : OneResult 0 standing-refusal-kinds.ps standing-refusal-kinds.r standing-refusal-reads.Post
+  pub check-job : OneResult 1 check-job-kinds.ps check-job-kinds.r check-job-reads.Post
+  pub check-begin : OneResult 1 check-begin-kinds.ps check-begin-kinds.r check-begin-reads.Post
+  pub check-standing : OneResult 0 check-standing-kinds.ps check-standing-kinds.r check-standing-reads.Post
   -- the table of commands
   pub effect_of : OneResult 0 effect-of-kinds.ps effect-of-kinds.r effect-of-reads.Post
   -- the chip

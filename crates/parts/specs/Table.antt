@@ -1,9 +1,11 @@
 -- The part table of document 01, one line a part.
-use Rattle.std.specs.Prelude.{ℕ, ◌^◌, Bool, true, false, List, [], ◌∷◌, ltb, get_or}
+use Rattle.std.specs.Prelude.{ℕ, ◌^◌, Result, Ok, Err, Bool, true, false, List, [], ◌∷◌, ltb, get_or}
 use Rattle.parts.specs.Names.{NO-PART}
 use Rattle.parts.specs.Pick.{◌when◌, ◌else◌}
 use Rattle.parts.specs.declared.table.End.{End}
 use Rattle.parts.specs.declared.table.End.TheVariants.{Neither, Lowest, Highest}
+use Rattle.parts.specs.Refused.{number_of}
+use Rattle.parts.specs.declared.refusal.Refusal.{Refusal}
 use Rattle.parts.specs.declared.table.Line.{Line}
 use Rattle.parts.specs.declared.table.Row.{Row}
 
@@ -77,3 +79,8 @@ pub record Found : Type 0 where
 -- the row by the part's number
 abbrev pub found_of : ℕ → Found
 found_of part = record { answer = part_refusal part; row = row_of part }
+
+-- what a call for it tells: a row of zeros beside a refusal
+abbrev pub told_row : Result Row Refusal → Found
+told_row (Ok r) = record { answer = 0; row = r }
+told_row (Err e) = record { answer = number_of e; row = row_from no_line }
