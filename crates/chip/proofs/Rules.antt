@@ -4,7 +4,7 @@ use native.Mathlib.Omega.{arith}
 use lib.Pow.{pow_mono}
 use Rattle.parts.specs.Width.{value_of, blank_of}
 use Rattle.parts.proofs.Values.{blank-word}
-use Rattle.device.proofs.Accepted.{read-there}
+use Rattle.device.proofs.Accepted.{read-there, in_words}
 use Rattle.device.proofs.Leaves.{stored, finished-program, scarred-program}
 
 -- blank has bit 7
@@ -20,3 +20,6 @@ pub ruleset there = (read-there)
 pub ruleset completion = (stored, finished-program)
 
 pub ruleset cut = (stored, scarred-program)
+
+-- a part that was looked up
+pub ruleset known = (in_words)

@@ -3,8 +3,8 @@ ghost use Rattle.std.specs.Prelude.{◌≡◌, map, ◌+◌, ◌≤◌, length};
 ghost use Rattle.std.specs.Int.Bits.{bit_or};
 ghost use Rattle.parts.specs.Width.{value_of};
 ghost use Rattle.device.specs.Operation.{cells_of, complete_on, cut_on};
-ghost use Rattle.device.specs.Needs.{InWords};
 
+use crate::cycle::Part;
 use device::Operation;
 use parts::names::{BLOCK, PROGRAM, SECTOR};
 use parts::{Row, Span};
@@ -39,19 +39,18 @@ fn scar_each(cells: &mut [u16], width: u32, scar: u16)
 
 // The operation completes on the cells.
 #[tactic(auto, unfolding(device::specs::Operation::complete_on), using(crate::proofs::Rules::completion))]
-pub(crate) fn complete(cells: &mut [u16], row: Row, o: Operation)
-    requires o_in_bounds { (cells_of row o).first + (cells_of row o).count ≤ length cells.old }
-    requires in_words { InWords row }
-    ensures { cells.new ≡ complete_on row o cells.old }
+pub(crate) fn complete(cells: &mut [u16], part: Part, o: Operation)
+    requires { (cells_of part.row o).first + (cells_of part.row o).count ≤ length cells.old }
+    ensures { cells.new ≡ complete_on part.row o cells.old }
 {
     if o.kind == PROGRAM {
         cells[o.address as usize] &= o.data;
         return;
     }
-    let span = cells_of(row, o);
+    let span = cells_of(part.row, o);
     let first = span.first as usize;
     let end = first + span.count as usize;
-    cells[first..end].fill(parts::blank(row.width));
+    cells[first..end].fill(parts::blank(part.row.width));
 }
 
 // The operation is cut short.

@@ -1,20 +1,21 @@
 -- What an accepted start hands back.
 use Prim.Native.Nat.{ℕ, ◌≤◌, ◌<◌}
-use mathlib.Core.Path.{◌≡◌, refl}
+use mathlib.Core.Path.{◌≡◌, refl, ◌∙◌}
 use mathlib.Core.Bool.{Bool, true, false}
 use native.Mathlib.Omega.{arith}
-use borrow.Author.Tests.{eq-eqb, ne_eqb, lt-ltb}
-use lib.Dec.{eqb}
-use Rattle.parts.specs.Pick.{pick}
+use borrow.Author.Tests.{lt-ltb}
+use lib.Dec.{eqb, ltb}
+use Rattle.parts.specs.Names.{NO-ADDRESS, WIDE-DATA, NO-COMMAND}
+use Rattle.parts.specs.Pick.{pick, ◌when◌, ◌unless◌, ◌else◌}
 use Rattle.parts.specs.Table.{row_of}
-use Rattle.parts.specs.Width.{blank_of}
+use Rattle.parts.specs.Time.{has_command}
+use Rattle.parts.specs.Width.{blank_of, fits_in}
 use Rattle.parts.specs.declared.table.Row.{Row}
 use Rattle.device.specs.Sequence.{ignored}
 use Rattle.driver.proofs.Commands.{command-le, four}
-use Rattle.driver.specs.Refusals.{start_refusal}
+use Rattle.driver.specs.Refusals.{data_refusal, target_refusal, start_refusal}
 use Rattle.driver.specs.Writes.{last_write, writes_of, write_count}
 use Rattle.driver.specs.Machine.{address_of, data_of, bit_seven, bit_wanted, value_wanted, begun, start_of, in_range, step_of, writing_of}
-use Rattle.driver.proofs.Asked.{beginning}
 use Rattle.driver.proofs.Asked as asks
 use Rattle.driver.proofs.Ready.{write-count-some}
 use Rattle.driver.proofs.Steps.{goes}
@@ -54,6 +55,23 @@ module _ (r : Row) (command a x : ℕ) (few : command ≤ 3) where
   unfolding ignored
   kept-heeded wp = four (λ (k : ℕ). ignored r wp k (address_of k a) ≡ ignored r wp k a) refl refl refl refl command few
 
+-- and so is refused as what was given
+pub kept-target : (r : Row) (command a x : ℕ) → target_refusal r command (address_of command a) (data_of command x) ≡ target_refusal r command a x
+unfolding target_refusal data_refusal
+kept-target r command a x = by (has_command r command) (eqb command 3) (eqb command 0)
+  where
+    by : (has chip program : Bool)
+        → (NO-COMMAND unless has else 0 when chip else NO-ADDRESS unless ltb (pick chip 0 a) r.cells else 0 unless program else WIDE-DATA unless fits_in r.width (pick program x 0) else 0)
+        ≡ (NO-COMMAND unless has else 0 when chip else NO-ADDRESS unless ltb a r.cells else 0 unless program else WIDE-DATA unless fits_in r.width x else 0)
+    by false chip program = refl
+    by true true program = refl
+    by true false true = refl
+    by true false false = refl
+
+pub kept-start : (part command a x p : ℕ) → start_refusal part command (address_of command a) (data_of command x) p ≡ start_refusal part command a x p
+unfolding start_refusal
+kept-start part command a x p = rw kept-target
+
 -- ---- an accepted start
 module _ (part command a x p : ℕ) (accepted : start_refusal part command a x p ≡ 0) where
   pub start_is : start_of part command a x p ≡ record { answer = 0; driver = begun part command a x p }
@@ -65,15 +83,7 @@ module _ (part command a x p : ℕ) (accepted : start_refusal part command a x p
 
   -- what is kept of the address and the data is accepted as well
   pub kept-accepted : start_refusal part command (address_of command a) (data_of command x) p ≡ 0
-  kept-accepted =
-      let w = asks.begun part command a x p accepted in
-      let t = w.asked.target in
-      beginning part command (address_of command a) (data_of command x) p
-      (record {
-        asked = record { known = w.asked.known; target = record { has = t.has; there = λ n. rw (ne_eqb command 3 n) (t.there n); fits = λ z. rw (eq-eqb command 0 z) (t.fits z) } };
-        some = w.some;
-        most = w.most;
-      })
+  kept-accepted = kept-start part command a x p ∙ accepted
 
   pub start-range : in_range (begun part command a x p) ≡ true
   unfolding in_range
@@ -86,4 +96,7 @@ writes-first part command a x p accepted = goes (begun part command a x p) 0 (st
 pub first-fits : (command : ℕ) → 0 < write_count command
 first-fits command = omega (arith, write-count-some command)
 
-pub ruleset writing = (writes-first, first-fits)
+pub ruleset writing = (kept-start, writes-first, first-fits)
+
+-- what the check proves `start` by
+pub ruleset starts = (kept-start)

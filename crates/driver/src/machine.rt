@@ -6,7 +6,7 @@ ghost use Rattle.driver.specs.Fits.{CodesAndTimesFit};
 ghost use Rattle.driver.specs.Writes.{write_count};
 
 use crate::refusals::check_start;
-use crate::writes::{nth_write, write_count};
+use crate::writes::{Asked, write_count};
 use device::Action;
 use parts::names::{BIT_7, CHIP, PROGRAM};
 use parts::{Refusal, Row};
@@ -92,17 +92,6 @@ fn bit_wanted(command: u32, data: u16) -> u16
     1
 }
 
-// What the confirming read must equal.
-fn value_wanted(row: Row, command: u32, data: u16) -> u16
-    requires { row.width ≤ 16 }
-    ensures { result ≡ value_wanted row command «data» }
-{
-    if command == PROGRAM {
-        return data;
-    }
-    parts::blank(row.width)
-}
-
 // A driver that has named nothing yet.
 fn begin(part: u32, command: u32, address: u32, data: u16, p: u32) -> Driver
     ensures { result ≡ begun part command address «data» p }
@@ -127,14 +116,14 @@ fn no_driver() -> Driver
 
 // Starts a command, polled every p µs: refusals 1, 10, 14, 3, 4. A refused start hands back the all-zero state.
 // kept: what may not change: a refused start's state, which its clause, demands' `start-refuses` and `refused-start-steps` speak of
-#[tactic(auto, unfolding(crate::specs::Machine::start_of))]
+#[tactic(auto, unfolding(crate::specs::Machine::start_of), using(crate::proofs::Begins::starts))]
 pub fn start(part: u32, command: u32, address: u32, data: u16, p: u32) -> Started
     ensures { result ≡ start_of part command address «data» p }
 {
-    match check_start(part, command, address, data, p) {
-        Ok(_) => Started {
+    match check_start(begin(part, command, address, data, p)) {
+        Ok(checked) => Started {
             answer: 0,
-            driver: begin(part, command, address, data, p),
+            driver: checked.driver,
         },
         Err(refusal) => Started {
             answer: refusal.number(),
@@ -148,81 +137,131 @@ pub fn start(part: u32, command: u32, address: u32, data: u16, p: u32) -> Starte
 pub fn start_writing(part: u32, command: u32, address: u32, data: u16, p: u32) -> Step
     ensures { result ≡ start_writing part command address «data» p }
 {
-    match check_start(part, command, address, data, p) {
-        Ok(row) => begin(part, command, address, data, p).write_on(row),
+    match check_start(begin(part, command, address, data, p)) {
+        Ok(checked) => checked.write_on(),
         Err(refusal) => no_driver().end(Phase::Writing, refusal.number()),
     }
 }
 
-impl Driver {
+// A driver whose start was checked, with its part's row: what its next step is found by.
+#[derive(Clone, Copy)]
+pub(crate) struct Checked {
+    pub driver: Driver,
+    pub row: Row,
+    ghost fits: { CodesAndTimesFit row },
+    ghost narrow: { row.width ≤ 16 },
+    ghost interval: { 0 < driver.p },
+}
+
+impl Checked {
     // Whether n polls are fewer than the most, 2N: found with no division.
     #[tactic(auto, using(crate::proofs::Polls::left))]
-    fn polls_left(self, row: Row, n: u32) -> bool
-        requires { 0 < self.p }
-        ensures { result ≡ ltb n (most_polls row self.command self.p) }
+    fn polls_left(self, n: u32) -> bool
+        ensures { result ≡ ltb n (most_polls self.row self.driver.command self.driver.p) }
     {
-        let passed = (n / 2) as u64 * self.p as u64;
-        passed < row.time(self.command) as u64
+        let passed = (n / 2) as u64 * self.driver.p as u64;
+        passed < self.row.time(self.driver.command) as u64
     }
 
     // Whether the count is at most 2N.
     #[tactic(auto, using(crate::proofs::Polls::left))]
-    fn polls_fit(self, row: Row) -> bool
-        requires { 0 < self.p }
-        ensures { result ≡ leb self.count (most_polls row self.command self.p) }
+    fn polls_fit(self) -> bool
+        ensures { result ≡ leb self.driver.count (most_polls self.row self.driver.command self.driver.p) }
     {
-        let n = self.count;
-        n == 0 || self.polls_left(row, n - 1)
+        let n = self.driver.count;
+        n == 0 || self.polls_left(n - 1)
     }
 
     // Whether the count is 1 to 2N.
     #[tactic(auto, using(parts::proofs::Rules::tests))]
-    fn some_polls(self, row: Row) -> bool
-        requires { 0 < self.p }
-        ensures { result ≡ some_up_to (most_polls row self.command self.p) self.count }
+    fn some_polls(self) -> bool
+        ensures { result ≡ some_up_to (most_polls self.row self.driver.command self.driver.p) self.driver.count }
     {
-        0 < self.count && self.polls_fit(row)
+        0 < self.driver.count && self.polls_fit()
     }
 
     // Whether the count is 2N.
     #[tactic(auto, using(crate::proofs::Polls::left))]
-    fn all_polls(self, row: Row) -> bool
-        requires { 0 < self.p }
-        ensures { result ≡ eqb self.count (most_polls row self.command self.p) }
+    fn all_polls(self) -> bool
+        ensures { result ≡ eqb self.driver.count (most_polls self.row self.driver.command self.driver.p) }
     {
-        !self.polls_left(row, self.count) && self.polls_fit(row)
+        !self.polls_left(self.driver.count) && self.polls_fit()
     }
 
     // Whether so many writes or polls fit the phase.
-    fn count_fits(self, row: Row) -> bool
-        requires { 0 < self.p }
-        ensures { result ≡ count_fits self.phase (write_count self.command) (most_polls row self.command self.p) self.count }
+    fn count_fits(self) -> bool
+        ensures { result ≡ count_fits self.driver.phase (write_count self.driver.command) (most_polls self.row self.driver.command self.driver.p) self.driver.count }
     {
-        match self.phase {
-            Phase::Writing => self.count < write_count(self.command),
-            Phase::Polling => self.polls_fit(row),
-            Phase::Confirming => self.some_polls(row),
-            Phase::Done => self.some_polls(row),
-            Phase::GaveUp => self.all_polls(row),
-            Phase::Differs => self.some_polls(row),
+        match self.driver.phase {
+            Phase::Writing => self.driver.count < write_count(self.driver.command),
+            Phase::Polling => self.polls_fit(),
+            Phase::Confirming => self.some_polls(),
+            Phase::Done => self.some_polls(),
+            Phase::GaveUp => self.all_polls(),
+            Phase::Differs => self.some_polls(),
         }
     }
 
-    // The row of the part, where the state is in range.
-    #[tactic(auto, unfolding(crate::specs::Machine::in_range), using(parts::proofs::Told::refused))]
-    fn row_in_range(self) -> Option<Row>
-        ensures variant { is_some result ≡ in_range self }
-        ensures row { IfSome result (λ r. r ≡ row_of self.part) }
-        ensures fits { IfSome result (λ r. CodesAndTimesFit r × (r.width ≤ 16)) }
-        ensures interval { OnSome result (0 < self.p) }
+    // Names the next write.
+    #[tactic(auto, unfolding(crate::specs::Machine::writing_of))]
+    fn write_on(self) -> Step
+        requires { self.driver.count < write_count self.driver.command }
+        ensures { result ≡ writing_of self.row self.driver }
     {
-        let row = check_start(self.part, self.command, self.address, self.data, self.p).ok()?;
-        if !self.count_fits(row) {
-            return None;
+        let asked = Asked {
+            row: self.row,
+            command: self.driver.command,
+            address: self.driver.address,
+            data: self.driver.data,
+        };
+        let w = asked.nth_write(self.driver.count);
+        let write = Action::Write(w.address, w.data);
+        Step {
+            answer: 0,
+            driver: self.driver.after_write(),
+            next: Some((0, write)),
+            polls: 0,
         }
-        Some(row)
     }
 
+    // Polls on, confirms or gives up.
+    #[tactic(auto, unfolding(crate::specs::Machine::polling_of), using(crate::proofs::Ready::counts))]
+    fn poll_on(self, read: u16) -> Step
+        ensures { result ≡ polling_of self.row self.driver read }
+    {
+        let driver = self.driver;
+        if driver.is_match(read) {
+            return driver.confirm();
+        }
+        if self.polls_left(driver.count) {
+            return driver.poll();
+        }
+        driver.end(Phase::GaveUp, Refusal::GaveUp.number())
+    }
+
+    // What the confirming read must equal.
+    fn value_wanted(self) -> u16
+        ensures { result ≡ value_wanted self.row self.driver.command self.driver.«data» }
+    {
+        if self.driver.command == PROGRAM {
+            return self.driver.data;
+        }
+        parts::blank(self.row.width)
+    }
+
+    // Compares the confirming read.
+    #[tactic(auto, unfolding(crate::specs::Machine::confirming_of), using(parts::proofs::Rules::tests))]
+    fn compare(self, read: u16) -> Step
+        ensures { result ≡ confirming_of self.row self.driver read }
+    {
+        if parts::value(self.row.width, read) == self.value_wanted() {
+            return self.driver.end(Phase::Done, 0);
+        }
+        self.driver.end(Phase::Differs, Refusal::Differs.number())
+    }
+}
+
+impl Driver {
     // The same driver in a phase, with a count.
     fn moved_to(self, phase: Phase, count: u32) -> Driver
         ensures { result ≡ moved self phase count }
@@ -257,23 +296,6 @@ impl Driver {
             return self.moved_to(Phase::Writing, n);
         }
         self.moved_to(Phase::Polling, 0)
-    }
-
-    // Names the next write.
-    #[tactic(auto, unfolding(crate::specs::Machine::writing_of))]
-    fn write_on(self, row: Row) -> Step
-        requires codes_and_times_fit { CodesAndTimesFit row }
-        requires count_bound { self.count < write_count self.command }
-        ensures { result ≡ writing_of row self }
-    {
-        let w = nth_write(row, self.command, self.address, self.data, self.count);
-        let write = Action::Write(w.address, w.data);
-        Step {
-            answer: 0,
-            driver: self.after_write(),
-            next: Some((0, write)),
-            polls: 0,
-        }
     }
 
     // A read of the operation's address.
@@ -321,32 +343,18 @@ impl Driver {
         0 < self.count && bit_seven(read) == bit_wanted(self.command, self.data)
     }
 
-    // Polls on, confirms or gives up.
-    #[tactic(auto, unfolding(crate::specs::Machine::polling_of), using(crate::proofs::Ready::counts))]
-    fn poll_on(self, row: Row, read: u16) -> Step
-        requires codes_and_times_fit { CodesAndTimesFit row }
-        requires p_nonzero { 0 < self.p }
-        ensures { result ≡ polling_of row self read }
+    // The driver with its part's row, where the state is in range.
+    #[tactic(auto, unfolding(crate::specs::Machine::in_range), using(parts::proofs::Told::refused))]
+    fn checked(self) -> Option<Checked>
+        ensures variant { is_some result ≡ in_range self }
+        ensures row { IfSome result (λ c. c.row ≡ row_of self.part) }
+        ensures driver { IfSome result (λ c. c.driver ≡ self) }
     {
-        if self.is_match(read) {
-            return self.confirm();
+        let checked = check_start(self).ok()?;
+        if !checked.count_fits() {
+            return None;
         }
-        if self.polls_left(row, self.count) {
-            return self.poll();
-        }
-        self.end(Phase::GaveUp, Refusal::GaveUp.number())
-    }
-
-    // Compares the confirming read.
-    #[tactic(auto, unfolding(crate::specs::Machine::confirming_of), using(parts::proofs::Rules::tests))]
-    fn compare(self, row: Row, read: u16) -> Step
-        requires { row.width ≤ 16 }
-        ensures { result ≡ confirming_of row self read }
-    {
-        if parts::value(row.width, read) == value_wanted(row, self.command, self.data) {
-            return self.end(Phase::Done, 0);
-        }
-        self.end(Phase::Differs, Refusal::Differs.number())
+        Some(checked)
     }
 
     // Given the value last read, names the next cycle or the end: 5 for a state out of range.
@@ -354,7 +362,7 @@ impl Driver {
     pub fn step(self, read: u16) -> Step
         ensures { result ≡ step_of self read }
     {
-        let Some(row) = self.row_in_range() else {
+        let Some(checked) = self.checked() else {
             return Step {
                 answer: Refusal::BadState.number(),
                 driver: self,
@@ -363,9 +371,9 @@ impl Driver {
             };
         };
         match self.phase {
-            Phase::Writing => self.write_on(row),
-            Phase::Polling => self.poll_on(row, read),
-            Phase::Confirming => self.compare(row, read),
+            Phase::Writing => checked.write_on(),
+            Phase::Polling => checked.poll_on(read),
+            Phase::Confirming => checked.compare(read),
             Phase::Done => self.end(Phase::Done, 0),
             Phase::GaveUp => self.end(Phase::GaveUp, Refusal::GaveUp.number()),
             Phase::Differs => self.end(Phase::Differs, Refusal::Differs.number()),

@@ -7,10 +7,10 @@ use Rattle.device.proofs.Leaves.{program-there, came-back, map_same, finished-er
 use Rattle.chip.proofs.operation.complete.Goals as goal
 
 pub bounds-cells-o : goal.bounds-cells-o
-bounds-cells-o c = program-there c.args.row c.args.o _ c.if-o-eq-PROGRAM.true c.requires.o_in_bounds
+bounds-cells-o c = program-there c.args.part.row c.args.o _ c.if-o-eq-PROGRAM.true c.requires
 
 pub bounds-cells-o-then-o-eq-PROGRAM : goal.bounds-cells-o-then-o-eq-PROGRAM
-bounds-cells-o-then-o-eq-PROGRAM c = program-there c.args.row c.args.o _ c.if-o-eq-PROGRAM.true c.requires.o_in_bounds
+bounds-cells-o-then-o-eq-PROGRAM c = program-there c.args.part.row c.args.o _ c.if-o-eq-PROGRAM.true c.requires
 
 pub returns : goal.returns
 unfolding complete_on
@@ -18,8 +18,8 @@ returns c =
     let g = c.args in
     let s = c.cells_of-span.result in
     let k = s.first + s.count - s.first in
-    let e : c.blank.result ≡ blank_of g.row.width = c.blank.ensures ∙ blank-word _ c.requires.in_words.values in
-    came-back (finished g.row g.o) g.row g.o g.cells.now c.fill.new.self s k c.cells_of-span.ensures (omega arith)
+    let e : c.blank.result ≡ blank_of g.part.row.width = c.blank.ensures ∙ blank-word _ g.part.in_words.values in
+    came-back (finished g.part.row g.o) g.part.row g.o g.cells.now c.fill.new.self s k c.cells_of-span.ensures (omega arith)
     (c.fill.ensures.after (λ y h. h)
     ∙ splat_is_map (take k (drop s.first g.cells.now)) _ c.blank.result refl
-    ∙ map_same (λ x. c.blank.result) (finished g.row g.o) (λ x. e ∙ finished-erase g.row g.o x c.if-o-eq-PROGRAM.false) (take k (drop s.first g.cells.now)))
+    ∙ map_same (λ x. c.blank.result) (finished g.part.row g.o) (λ x. e ∙ finished-erase g.part.row g.o x c.if-o-eq-PROGRAM.false) (take k (drop s.first g.cells.now)))
