@@ -90,177 +90,191 @@ impl Job {
         }
         Turn::Stop(0)
     }
+}
 
-    // The cells of an unerased sector are read again from at on; then the next sector.
-    #[tactic(auto, unfolding(crate::specs::Loader::look_of), using(parts::proofs::Rules::tests))]
-    fn look(self, base: u32, at: u32) -> Turn
-        requires count_bound { self.first + self.count ≤ 4194304 }
-        requires size_bound { base + self.size ≤ self.count }
-        ensures { result ≡ look_of self base at }
+// The cell that a loader is at: of a sector in the image, of a job that fits the image.
+#[derive(Clone, Copy)]
+pub(crate) struct Place<'a> {
+    job: Job,
+    image: &'a [u16],
+    base: u32,
+    at: u32,
+    ghost fits: { JobFits job (length image.now) },
+    ghost in_image: { base + job.size ≤ job.count },
+    ghost in_sector: { at < job.size },
+}
+
+impl<'a> Place<'a> {
+    // Another cell of the sector.
+    fn moved_to(&self, at: u32) -> Place<'a>
+        requires { at < self.now.job.size }
+        ensures job { result.job ≡ self.now.job }
+        ensures image { result.image ≡ self.now.image }
+        ensures base { result.base ≡ self.now.base }
+        ensures at { result.at ≡ at }
     {
-        if at < self.size {
-            return self.reads_cell(Stage::Looking, base, at);
+        Place {
+            job: self.job,
+            image: self.image,
+            base: self.base,
+            at,
         }
-        self.next_sector(base + self.size)
     }
 
-    // An operation at a cell of a sector begins with its first write.
-    #[tactic(auto, unfolding(crate::specs::Loader::begin_of))]
-    fn begin(self, task: Task, base: u32, at: u32, command: u32, data: u16) -> Turn
-        requires { self.first + (base + at) ≤ 4294967295 }
-        ensures { result ≡ begin_of self task base at command «data» }
+    // The cells of an unerased sector are read again from one on; then the next sector.
+    #[tactic(auto, unfolding(crate::specs::Loader::look_of), using(parts::proofs::Rules::tests))]
+    fn look(&self, from: u32) -> Turn
+        ensures { result ≡ look_of self.now.job self.now.base from }
     {
-        let address = self.first + (base + at);
-        let step = driver::start_writing(self.part, command, address, data, self.p);
-        self.first_step(task, base, at, step)
+        if from < self.job.size {
+            return self.job.reads_cell(Stage::Looking, self.base, from);
+        }
+        self.job.next_sector(self.base + self.job.size)
+    }
+
+    // An operation at the cell begins with its first write.
+    #[tactic(auto, unfolding(crate::specs::Loader::begin_of))]
+    fn begin(&self, task: Task, command: u32, data: u16) -> Turn
+        ensures { result ≡ begin_of self.now.job task self.now.base self.now.at command «data» }
+    {
+        let address = self.job.first + (self.base + self.at);
+        let step = driver::start_writing(self.job.part, command, address, data, self.job.p);
+        self.first_step(task, step)
     }
 
     // A driver's first step: its cycle, or the refusal of its start.
-    fn first_step(self, task: Task, base: u32, at: u32, step: Step) -> Turn
-        ensures { result ≡ first_step self task base at step }
+    fn first_step(&self, task: Task, step: Step) -> Turn
+        ensures { result ≡ first_step self.now.job task self.now.base self.now.at step }
     {
         match step.next {
             None => Turn::Stop(step.answer),
-            Some((elapsed, action)) => self.goes_on(task, base, at, step.driver, elapsed, action),
+            Some((elapsed, action)) => self.goes_on(task, step.driver, elapsed, action),
         }
     }
 
     // The cycle that a driver names.
-    fn goes_on(
-        self,
-        task: Task,
-        base: u32,
-        at: u32,
-        driver: Driver,
-        elapsed: u32,
-        action: Action,
-    ) -> Turn
-        ensures { result ≡ goes_on self task base at driver elapsed action }
+    fn goes_on(&self, task: Task, driver: Driver, elapsed: u32, action: Action) -> Turn
+        ensures { result ≡ goes_on self.now.job task self.now.base self.now.at driver elapsed action }
     {
         let purpose = purpose_of(driver, action);
         let cycle = Cycle {
             elapsed,
-            wp: self.wp,
+            wp: self.job.wp,
             action,
         };
-        let stage = Stage::Driving(task, driver);
-        let loader = Loader { stage, base, at };
+        let loader = Loader {
+            stage: Stage::Driving(task, driver),
+            base: self.base,
+            at: self.at,
+        };
         Turn::Play(loader, purpose, cycle)
     }
 
-    // The next non-blank value of an erased sector from at on is programmed; then the next sector.
-    fn fill(self, image: &[u16], base: u32, at: u32) -> Turn
-        requires job_fits { JobFits self (length image.now) }
-        requires size_bound { base + self.size ≤ self.count }
-        requires at_le_size { at ≤ self.size }
-        ensures { result ≡ fill_of self image.now base at }
+    // The next non-blank value of an erased sector from a cell on is programmed; then the next sector.
+    #[inline(always)]
+    fn fill(&self, from: u32) -> Turn
+        requires { from ≤ self.now.job.size }
+        ensures { result ≡ fill_of self.now.job self.now.image.now self.now.base from }
     {
-        let from = (base + at) as usize;
-        let end = (base + self.size) as usize;
-        let mark = at as usize + values::leading(&image[from..end], parts::blank(self.row.width));
-        if mark < self.size as usize {
-            let data = image[base as usize + mark];
-            return self.begin(Task::Filling, base, mark as u32, PROGRAM, data);
+        let start = (self.base + from) as usize;
+        let end = (self.base + self.job.size) as usize;
+        let blank = parts::blank(self.job.row.width);
+        let mark = from as usize + values::leading(&self.image[start..end], blank);
+        if mark < self.job.size as usize {
+            let data = self.image[self.base as usize + mark];
+            return self
+                .moved_to(mark as u32)
+                .begin(Task::Filling, PROGRAM, data);
         }
-        self.next_sector(base + self.size)
+        self.job.next_sector(self.base + self.job.size)
     }
 
     // A cell of an unerased sector whose value differs is programmed at once.
     #[tactic(auto, unfolding(crate::specs::Loader::burn_of), using(parts::proofs::Rules::tests))]
-    fn burn(self, image: &[u16], base: u32, at: u32, reply: u16) -> Turn
-        requires job_fits { JobFits self (length image.now) }
-        requires size_bound { base + self.size ≤ self.count }
-        requires at_lt_size { at < self.size }
-        ensures { result ≡ burn_of self image.now base at reply }
+    fn burn(&self, reply: u16) -> Turn
+        ensures { result ≡ burn_of self.now.job self.now.image.now self.now.base self.now.at reply }
     {
-        let data = image[(base + at) as usize];
-        if parts::value(self.row.width, reply) == data {
-            return self.look(base, at + 1);
+        let data = self.image[(self.base + self.at) as usize];
+        if parts::value(self.job.row.width, reply) == data {
+            return self.look(self.at + 1);
         }
-        self.begin(Task::Burning, base, at, PROGRAM, data)
+        self.begin(Task::Burning, PROGRAM, data)
     }
 
     // What a decision asks for is begun: the sector's erase, or its cells are read again.
-    fn carry_out(self, decision: Decision, base: u32) -> Turn
-        requires count_bound { self.first + self.count ≤ 4194304 }
-        requires size_bound { base + self.size ≤ self.count }
-        ensures { result ≡ carry_out self base decision }
+    fn carry_out(&self, decision: Decision) -> Turn
+        ensures { result ≡ carry_out self.now.job self.now.base decision }
     {
         match decision {
-            Decision::NoErase => self.look(base, 0),
-            Decision::SectorErase => self.begin(Task::Erasing, base, 0, SECTOR, 0),
+            Decision::NoErase => self.look(0),
+            Decision::SectorErase => self.moved_to(0).begin(Task::Erasing, SECTOR, 0),
         }
     }
 
     // The sector's decision, from the values seen.
-    fn decide(self, image: &[u16], seen: &[u16], base: u32) -> Turn
-        requires job_fits { JobFits self (length image.now) }
-        requires size_bound { base + self.size ≤ self.count }
-        requires size_in_bounds { self.size ≤ length seen.now }
-        ensures { result ≡ decide_of self image.now seen.now base }
+    #[tactic(auto, unfolding(crate::specs::Loader::decide_of))]
+    fn decide(&self, seen: &[u16; 4096]) -> Turn
+        ensures { result ≡ decide_of self.now.job self.now.image.now seen.now self.now.base }
     {
-        let size = self.size as usize;
-        let from = base as usize;
-        let end = from + size;
-        let decision = values::decision_of(&seen[..size], &image[from..end], self.row.width);
-        self.carry_out(decision, base)
+        let size = self.job.size as usize;
+        let image = &self.image[self.base as usize..][..size];
+        let decision = values::decision_of(&seen[..size], image, self.job.row.width);
+        self.carry_out(decision)
     }
 
     // What follows an operation.
-    fn then(self, image: &[u16], task: Task, base: u32, at: u32) -> Turn
-        requires job_fits { JobFits self (length image.now) }
-        requires size_bound { base + self.size ≤ self.count }
-        requires at_lt_size { at < self.size }
-        ensures { result ≡ afterwards self image.now task base at }
+    fn then(&self, task: Task) -> Turn
+        ensures { result ≡ afterwards self.now.job self.now.image.now task self.now.base self.now.at }
     {
         match task {
-            Task::Erasing => self.fill(image, base, 0),
-            Task::Filling => self.fill(image, base, at + 1),
-            Task::Burning => self.look(base, at + 1),
+            Task::Erasing => self.fill(0),
+            Task::Filling => self.fill(self.at + 1),
+            Task::Burning => self.look(self.at + 1),
         }
     }
 
     // A driver's step: its cycle, or what follows.
     #[tactic(auto, unfolding(crate::specs::Loader::driven_of))]
-    fn driven(self, image: &[u16], task: Task, base: u32, at: u32, step: Step) -> Turn
-        requires job_fits { JobFits self (length image.now) }
-        requires size_bound { base + self.size ≤ self.count }
-        requires at_lt_size { at < self.size }
-        ensures { result ≡ driven_of self image.now task base at step }
+    fn driven(&self, task: Task, step: Step) -> Turn
+        ensures { result ≡ driven_of self.now.job self.now.image.now task self.now.base self.now.at step }
     {
         match step.next {
-            None => self.operation_ended(image, task, base, at, step.answer),
-            Some((elapsed, action)) => self.goes_on(task, base, at, step.driver, elapsed, action),
+            None => self.operation_ended(task, step.answer),
+            Some((elapsed, action)) => self.goes_on(task, step.driver, elapsed, action),
         }
     }
 
     // An operation has ended.
     #[tactic(auto, using(parts::proofs::Rules::tests))]
-    fn operation_ended(self, image: &[u16], task: Task, base: u32, at: u32, answer: u32) -> Turn
-        requires job_fits { JobFits self (length image.now) }
-        requires size_bound { base + self.size ≤ self.count }
-        requires at_lt_size { at < self.size }
-        ensures { result ≡ pick (eqb answer 0) (afterwards self image.now task base at) (Turn.Stop answer) }
+    fn operation_ended(&self, task: Task, answer: u32) -> Turn
+        ensures { result ≡ pick (eqb answer 0) (afterwards self.now.job self.now.image.now task self.now.base self.now.at) (Turn.Stop answer) }
     {
         if answer == 0 {
-            return self.then(image, task, base, at);
+            return self.then(task);
         }
         Turn::Stop(answer)
     }
 
     // The scan goes on to the sector's end, then decides.
     #[tactic(auto, unfolding(crate::specs::Loader::scanned_of), using(parts::proofs::Rules::tests))]
-    fn scanned(self, image: &[u16], seen: &[u16], base: u32, at: u32) -> Turn
-        requires job_fits { JobFits self (length image.now) }
-        requires size_bound { base + self.size ≤ self.count }
-        requires at_lt_size { at < self.size }
-        requires size_in_bounds { self.size ≤ length seen.now }
-        ensures { result ≡ scanned_of self image.now seen.now base at }
+    fn scanned(&self, seen: &[u16; 4096]) -> Turn
+        ensures { result ≡ scanned_of self.now.job self.now.image.now seen.now self.now.base self.now.at }
     {
-        if at + 1 < self.size {
-            return self.reads_cell(Stage::Scanning, base, at + 1);
+        if self.at + 1 < self.job.size {
+            return self.job.reads_cell(Stage::Scanning, self.base, self.at + 1);
         }
-        self.decide(image, seen, base)
+        self.decide(seen)
+    }
+
+    // What a stage does, the reply of a scan being among the values seen.
+    fn stage_turn(&self, stage: Stage, seen: &[u16; 4096], reply: u16) -> Turn
+        ensures { result ≡ stage_of self.now.job self.now.image.now seen.now stage self.now.base self.now.at reply }
+    {
+        match stage {
+            Stage::Scanning => self.scanned(seen),
+            Stage::Looking => self.burn(reply),
+            Stage::Driving(task, driver) => self.driven(task, driver.step(reply)),
+        }
     }
 }
 
@@ -286,21 +300,6 @@ impl Loader {
         self.base as u64 + job.size as u64 <= job.count as u64 && self.at < job.size
     }
 
-    // What the stage does, the reply of a scan being among the values seen.
-    fn stage_turn(self, job: Job, image: &[u16], seen: &[u16], reply: u16) -> Turn
-        requires job_fits { JobFits job (length image.now) }
-        requires size_bound { self.base + job.size ≤ job.count }
-        requires at_lt_size { self.at < job.size }
-        requires size_in_bounds { job.size ≤ length seen.now }
-        ensures { result ≡ stage_of job image.now seen.now self.stage self.base self.at reply }
-    {
-        match self.stage {
-            Stage::Scanning => job.scanned(image, seen, self.base, self.at),
-            Stage::Looking => job.burn(image, self.base, self.at, reply),
-            Stage::Driving(task, d) => job.driven(image, task, self.base, self.at, d.step(reply)),
-        }
-    }
-
     // A scan's reply is kept among the values seen.
     fn keep(self, seen: &mut [u16; 4096], reply: u16)
         requires { self.at < 4096 }
@@ -321,6 +320,12 @@ impl Loader {
             return Turn::Stop(Refusal::BadState.number());
         }
         self.keep(seen, reply);
-        self.stage_turn(job, image, &seen[..], reply)
+        let place = Place {
+            job,
+            image,
+            base: self.base,
+            at: self.at,
+        };
+        place.stage_turn(self.stage, seen, reply)
     }
 }
