@@ -1,5 +1,5 @@
 // The loader: a machine by value over replies. It never sees the cells: what it decides, it decides from what was read.
-ghost use Rattle.std.specs.Prelude.{◌≡◌, ◌+◌, ◌≤◌, ◌<◌, length, eqb, true};
+ghost use Rattle.std.specs.Prelude.{◌≡◌, ◌+◌, ◌≤◌, ◌<◌, length, eqb, is_some, IfSome};
 ghost use Rattle.parts.specs.Pick.{pick};
 ghost use Rattle.job.specs.Loader.{afterwards, begin_of, burn_of, carry_out, decide_of, driven_of, fill_of, first_step, goes_on, in_job, look_of, next_sector, purpose_of, reads_cell, scanned_of, seen_of, stage_of, turn_of};
 ghost use Rattle.job.specs.Fits.{JobFits};
@@ -95,10 +95,10 @@ impl Job {
 // The cell that a loader is at: of a sector in the image, of a job that fits the image.
 #[derive(Clone, Copy)]
 pub(crate) struct Place<'a> {
-    job: Job,
-    image: &'a [u16],
-    base: u32,
-    at: u32,
+    pub(crate) job: Job,
+    pub(crate) image: &'a [u16],
+    pub(crate) base: u32,
+    pub(crate) at: u32,
     ghost fits: { JobFits job (length image.now) },
     ghost in_image: { base + job.size ≤ job.count },
     ghost in_sector: { at < job.size },
@@ -109,7 +109,7 @@ impl<'a> Place<'a> {
     fn moved_to(&self, at: u32) -> Place<'a>
         requires { at < self.now.job.size }
         ensures job { result.job ≡ self.now.job }
-        ensures image { result.image ≡ self.now.image }
+        ensures image { result.image.now ≡ self.now.image.now }
         ensures base { result.base ≡ self.now.base }
         ensures at { result.at ≡ at }
     {
@@ -171,6 +171,7 @@ impl<'a> Place<'a> {
     }
 
     // The next non-blank value of an erased sector from a cell on is programmed; then the next sector.
+    // Inlined, since a place that is lent to a call is held in memory: that costs an eighth of a turn.
     #[inline(always)]
     fn fill(&self, from: u32) -> Turn
         requires { from ≤ self.now.job.size }
@@ -292,12 +293,22 @@ fn purpose_of(d: Driver, action: Action) -> Purpose
 }
 
 impl Loader {
-    // Whether the loader is in its job: its sector in the image, its cell in the sector.
+    // The place that the loader is at, where it is in its job: its sector in the image, its cell in the sector.
     #[tactic(auto, unfolding(crate::specs::Loader::in_job), using(parts::proofs::Rules::tests))]
-    pub(crate) fn is_in_job(self, job: Job) -> bool
-        ensures { result ≡ in_job job self }
+    pub(crate) fn place<'a>(self, job: Job, image: &'a [u16]) -> Option<Place<'a>>
+        requires { JobFits job (length image.now) }
+        ensures some { is_some result ≡ in_job job self }
+        ensures place { IfSome result (λ p. (p.job ≡ job) × (p.image.now ≡ image.now) × (p.base ≡ self.base) × (p.at ≡ self.at)) }
     {
-        self.base as u64 + job.size as u64 <= job.count as u64 && self.at < job.size
+        if self.base as u64 + job.size as u64 > job.count as u64 || self.at >= job.size {
+            return None;
+        }
+        Some(Place {
+            job,
+            image,
+            base: self.base,
+            at: self.at,
+        })
     }
 
     // A scan's reply is kept among the values seen.
@@ -311,21 +322,15 @@ impl Loader {
     }
 
     // The turn after a reply.
-    #[tactic(auto, unfolding(crate::specs::Loader::turn_of), using(crate::proofs::InJob::inside))]
+    #[tactic(auto, unfolding(crate::specs::Loader::turn_of))]
     pub(crate) fn turn(self, job: Job, image: &[u16], seen: &mut [u16; 4096], reply: u16) -> Turn
         requires { JobFits job (length image.now) }
         ensures { (result ≡ (turn_of job image.now seen.old self reply).turn) × (seen.new ≡ (turn_of job image.now seen.old self reply).seen) }
     {
-        if !self.is_in_job(job) {
+        let Some(place) = self.place(job, image) else {
             return Turn::Stop(Refusal::BadState.number());
-        }
-        self.keep(seen, reply);
-        let place = Place {
-            job,
-            image,
-            base: self.base,
-            at: self.at,
         };
+        self.keep(seen, reply);
         place.stage_turn(self.stage, seen, reply)
     }
 }

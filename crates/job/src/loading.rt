@@ -4,7 +4,7 @@ ghost use Rattle.job.specs.Fits.{JobFits};
 ghost use Rattle.job.specs.Loading.{asked_for, begin_load, is_ending, job_turn, loader_in_range, load_turn, load_turn_of, loading, moved_to, new_driver, progress_in_range, same_asked, stops_with, taken};
 
 use crate::bill::job_on;
-use crate::loader::{Job, Loader, Purpose, Stage, Task, Turn};
+use crate::loader::{Job, Loader, Place, Purpose, Stage, Task, Turn};
 use device::Cycle;
 use driver::{Driver, Phase};
 use parts::Refusal;
@@ -112,39 +112,39 @@ impl Job {
             count: 0,
         }
     }
+}
 
-    // What a task asks a driver for, at a cell of a sector.
-    fn asked_for(self, image: &[u16], task: Task, base: u32, at: u32) -> Driver
-        requires at_bound { self.first + (base + at) ≤ 4294967295 }
-        requires at_in_bounds { base + at < length image.now }
-        ensures { result ≡ asked_for self image.now task base at }
+impl<'a> Place<'a> {
+    // What a task asks a driver for at the cell.
+    fn asked_for(&self, task: Task) -> Driver
+        ensures { result ≡ asked_for self.now.job self.now.image.now task self.now.base self.now.at }
     {
-        let place = self.first + (base + at);
-        let data = image[(base + at) as usize];
+        let job = self.job;
+        let address = job.first + (self.base + self.at);
+        let data = self.image[(self.base + self.at) as usize];
         match task {
-            Task::Erasing => self.driver_of(SECTOR, self.first + base, 0),
-            Task::Filling => self.driver_of(PROGRAM, place, data),
-            Task::Burning => self.driver_of(PROGRAM, place, data),
+            Task::Erasing => job.driver_of(SECTOR, job.first + self.base, 0),
+            Task::Filling | Task::Burning => job.driver_of(PROGRAM, address, data),
         }
     }
 }
 
 impl Loader {
     // Whether the loader is one that its job can have: in it, at a sector's first cell, and a driver asks for what its task does.
-    #[tactic(auto, unfolding(crate::specs::Loading::loader_in_range), using(crate::proofs::InJob::inside, parts::proofs::Rules::tests))]
+    #[tactic(auto, unfolding(crate::specs::Loading::loader_in_range), using(parts::proofs::Rules::tests))]
     fn is_in_range(self, job: Job, image: &[u16]) -> bool
         requires { JobFits job (length image.now) }
         ensures { result ≡ loader_in_range job image.now self }
     {
-        if !self.is_in_job(job) || self.base % job.size != 0 {
+        let Some(place) = self.place(job, image) else {
+            return false;
+        };
+        if self.base % job.size != 0 {
             return false;
         }
         match self.stage {
             Stage::Scanning | Stage::Looking => true,
-            Stage::Driving(task, d) => same_asked(
-                d,
-                job.asked_for(image, task, self.base, self.at),
-            ),
+            Stage::Driving(task, d) => same_asked(d, place.asked_for(task)),
         }
     }
 }
