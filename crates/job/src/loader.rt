@@ -78,44 +78,49 @@ impl Job {
         let loader = Loader { stage, base, at };
         Turn::Play(loader, Purpose::Scan, cycle)
     }
+}
 
+// A job and the image that it loads: it fits that.
+#[derive(Clone, Copy)]
+pub(crate) struct Work<'a> {
+    pub(crate) job: Job,
+    pub(crate) image: &'a [u16],
+    ghost fits: { JobFits job (length image.now) },
+}
+
+impl<'a> Work<'a> {
     // The sector at base is read, if there is one.
     #[tactic(auto, unfolding(crate::specs::Loader::next_sector), using(parts::proofs::Rules::tests))]
-    pub(crate) fn next_sector(self, base: u32) -> Turn
-        requires { self.first + self.count ≤ 4194304 }
-        ensures { result ≡ next_sector self base }
+    pub(crate) fn next_sector(&self, base: u32) -> Turn
+        ensures { result ≡ next_sector self.now.job base }
     {
-        if base < self.count {
-            return self.reads_cell(Stage::Scanning, base, 0);
+        if base < self.job.count {
+            return self.job.reads_cell(Stage::Scanning, base, 0);
         }
         Turn::Stop(0)
     }
 }
 
-// The cell that a loader is at: of a sector in the image, of a job that fits the image.
+// The cell that a loader is at, in a sector of the image.
 #[derive(Clone, Copy)]
 pub(crate) struct Place<'a> {
-    pub(crate) job: Job,
-    pub(crate) image: &'a [u16],
+    pub(crate) work: Work<'a>,
     pub(crate) base: u32,
     pub(crate) at: u32,
-    ghost fits: { JobFits job (length image.now) },
-    ghost in_image: { base + job.size ≤ job.count },
-    ghost in_sector: { at < job.size },
+    ghost in_image: { base + work.job.size ≤ work.job.count },
+    ghost in_sector: { at < work.job.size },
 }
 
 impl<'a> Place<'a> {
     // Another cell of the sector.
     fn moved_to(&self, at: u32) -> Place<'a>
-        requires { at < self.now.job.size }
-        ensures job { result.job ≡ self.now.job }
-        ensures image { result.image.now ≡ self.now.image.now }
+        requires { at < self.now.work.job.size }
+        ensures work { result.work ≡ self.now.work }
         ensures base { result.base ≡ self.now.base }
         ensures at { result.at ≡ at }
     {
         Place {
-            job: self.job,
-            image: self.image,
+            work: self.work,
             base: self.base,
             at,
         }
@@ -124,27 +129,33 @@ impl<'a> Place<'a> {
     // The cells of an unerased sector are read again from one on; then the next sector.
     #[tactic(auto, unfolding(crate::specs::Loader::look_of), using(parts::proofs::Rules::tests))]
     fn look(&self, from: u32) -> Turn
-        ensures { result ≡ look_of self.now.job self.now.base from }
+        ensures { result ≡ look_of self.now.work.job self.now.base from }
     {
-        if from < self.job.size {
-            return self.job.reads_cell(Stage::Looking, self.base, from);
+        if from < self.work.job.size {
+            return self.work.job.reads_cell(Stage::Looking, self.base, from);
         }
-        self.job.next_sector(self.base + self.job.size)
+        self.work.next_sector(self.base + self.work.job.size)
     }
 
     // An operation at the cell begins with its first write.
     #[tactic(auto, unfolding(crate::specs::Loader::begin_of))]
     fn begin(&self, task: Task, command: u32, data: u16) -> Turn
-        ensures { result ≡ begin_of self.now.job task self.now.base self.now.at command «data» }
+        ensures { result ≡ begin_of self.now.work.job task self.now.base self.now.at command «data» }
     {
-        let address = self.job.first + (self.base + self.at);
-        let step = driver::start_writing(self.job.part, command, address, data, self.job.p);
+        let address = self.work.job.first + (self.base + self.at);
+        let step = driver::start_writing(
+            self.work.job.part,
+            command,
+            address,
+            data,
+            self.work.job.p,
+        );
         self.first_step(task, step)
     }
 
     // A driver's first step: its cycle, or the refusal of its start.
     fn first_step(&self, task: Task, step: Step) -> Turn
-        ensures { result ≡ first_step self.now.job task self.now.base self.now.at step }
+        ensures { result ≡ first_step self.now.work.job task self.now.base self.now.at step }
     {
         match step.next {
             None => Turn::Stop(step.answer),
@@ -154,12 +165,12 @@ impl<'a> Place<'a> {
 
     // The cycle that a driver names.
     fn goes_on(&self, task: Task, driver: Driver, elapsed: u32, action: Action) -> Turn
-        ensures { result ≡ goes_on self.now.job task self.now.base self.now.at driver elapsed action }
+        ensures { result ≡ goes_on self.now.work.job task self.now.base self.now.at driver elapsed action }
     {
         let purpose = purpose_of(driver, action);
         let cycle = Cycle {
             elapsed,
-            wp: self.job.wp,
+            wp: self.work.job.wp,
             action,
         };
         let loader = Loader {
@@ -171,32 +182,32 @@ impl<'a> Place<'a> {
     }
 
     // The next non-blank value of an erased sector from a cell on is programmed; then the next sector.
-    // Inlined, since a place that is lent to a call is held in memory: that costs an eighth of a turn.
+    // Inlined, since a place that is lent to a call is held in memory: a turn is then of a third more instructions.
     #[inline(always)]
     fn fill(&self, from: u32) -> Turn
-        requires { from ≤ self.now.job.size }
-        ensures { result ≡ fill_of self.now.job self.now.image.now self.now.base from }
+        requires { from ≤ self.now.work.job.size }
+        ensures { result ≡ fill_of self.now.work.job self.now.work.image.now self.now.base from }
     {
         let start = (self.base + from) as usize;
-        let end = (self.base + self.job.size) as usize;
-        let blank = parts::blank(self.job.row.width);
-        let mark = from as usize + values::leading(&self.image[start..end], blank);
-        if mark < self.job.size as usize {
-            let data = self.image[self.base as usize + mark];
+        let end = (self.base + self.work.job.size) as usize;
+        let blank = parts::blank(self.work.job.row.width);
+        let mark = from as usize + values::leading(&self.work.image[start..end], blank);
+        if mark < self.work.job.size as usize {
+            let data = self.work.image[self.base as usize + mark];
             return self
                 .moved_to(mark as u32)
                 .begin(Task::Filling, PROGRAM, data);
         }
-        self.job.next_sector(self.base + self.job.size)
+        self.work.next_sector(self.base + self.work.job.size)
     }
 
     // A cell of an unerased sector whose value differs is programmed at once.
     #[tactic(auto, unfolding(crate::specs::Loader::burn_of), using(parts::proofs::Rules::tests))]
     fn burn(&self, reply: u16) -> Turn
-        ensures { result ≡ burn_of self.now.job self.now.image.now self.now.base self.now.at reply }
+        ensures { result ≡ burn_of self.now.work.job self.now.work.image.now self.now.base self.now.at reply }
     {
-        let data = self.image[(self.base + self.at) as usize];
-        if parts::value(self.job.row.width, reply) == data {
+        let data = self.work.image[(self.base + self.at) as usize];
+        if parts::value(self.work.job.row.width, reply) == data {
             return self.look(self.at + 1);
         }
         self.begin(Task::Burning, PROGRAM, data)
@@ -204,7 +215,7 @@ impl<'a> Place<'a> {
 
     // What a decision asks for is begun: the sector's erase, or its cells are read again.
     fn carry_out(&self, decision: Decision) -> Turn
-        ensures { result ≡ carry_out self.now.job self.now.base decision }
+        ensures { result ≡ carry_out self.now.work.job self.now.base decision }
     {
         match decision {
             Decision::NoErase => self.look(0),
@@ -215,17 +226,17 @@ impl<'a> Place<'a> {
     // The sector's decision, from the values seen.
     #[tactic(auto, unfolding(crate::specs::Loader::decide_of))]
     fn decide(&self, seen: &[u16; 4096]) -> Turn
-        ensures { result ≡ decide_of self.now.job self.now.image.now seen.now self.now.base }
+        ensures { result ≡ decide_of self.now.work.job self.now.work.image.now seen.now self.now.base }
     {
-        let size = self.job.size as usize;
-        let image = &self.image[self.base as usize..][..size];
-        let decision = values::decision_of(&seen[..size], image, self.job.row.width);
+        let size = self.work.job.size as usize;
+        let image = &self.work.image[self.base as usize..][..size];
+        let decision = values::decision_of(&seen[..size], image, self.work.job.row.width);
         self.carry_out(decision)
     }
 
     // What follows an operation.
     fn then(&self, task: Task) -> Turn
-        ensures { result ≡ afterwards self.now.job self.now.image.now task self.now.base self.now.at }
+        ensures { result ≡ afterwards self.now.work.job self.now.work.image.now task self.now.base self.now.at }
     {
         match task {
             Task::Erasing => self.fill(0),
@@ -237,7 +248,7 @@ impl<'a> Place<'a> {
     // A driver's step: its cycle, or what follows.
     #[tactic(auto, unfolding(crate::specs::Loader::driven_of))]
     fn driven(&self, task: Task, step: Step) -> Turn
-        ensures { result ≡ driven_of self.now.job self.now.image.now task self.now.base self.now.at step }
+        ensures { result ≡ driven_of self.now.work.job self.now.work.image.now task self.now.base self.now.at step }
     {
         match step.next {
             None => self.operation_ended(task, step.answer),
@@ -248,7 +259,7 @@ impl<'a> Place<'a> {
     // An operation has ended.
     #[tactic(auto, using(parts::proofs::Rules::tests))]
     fn operation_ended(&self, task: Task, answer: u32) -> Turn
-        ensures { result ≡ pick (eqb answer 0) (afterwards self.now.job self.now.image.now task self.now.base self.now.at) (Turn.Stop answer) }
+        ensures { result ≡ pick (eqb answer 0) (afterwards self.now.work.job self.now.work.image.now task self.now.base self.now.at) (Turn.Stop answer) }
     {
         if answer == 0 {
             return self.then(task);
@@ -259,17 +270,20 @@ impl<'a> Place<'a> {
     // The scan goes on to the sector's end, then decides.
     #[tactic(auto, unfolding(crate::specs::Loader::scanned_of), using(parts::proofs::Rules::tests))]
     fn scanned(&self, seen: &[u16; 4096]) -> Turn
-        ensures { result ≡ scanned_of self.now.job self.now.image.now seen.now self.now.base self.now.at }
+        ensures { result ≡ scanned_of self.now.work.job self.now.work.image.now seen.now self.now.base self.now.at }
     {
-        if self.at + 1 < self.job.size {
-            return self.job.reads_cell(Stage::Scanning, self.base, self.at + 1);
+        if self.at + 1 < self.work.job.size {
+            return self
+                .work
+                .job
+                .reads_cell(Stage::Scanning, self.base, self.at + 1);
         }
         self.decide(seen)
     }
 
     // What a stage does, the reply of a scan being among the values seen.
     fn stage_turn(&self, stage: Stage, seen: &[u16; 4096], reply: u16) -> Turn
-        ensures { result ≡ stage_of self.now.job self.now.image.now seen.now stage self.now.base self.now.at reply }
+        ensures { result ≡ stage_of self.now.work.job self.now.work.image.now seen.now stage self.now.base self.now.at reply }
     {
         match stage {
             Stage::Scanning => self.scanned(seen),
@@ -295,17 +309,16 @@ fn purpose_of(d: Driver, action: Action) -> Purpose
 impl Loader {
     // The place that the loader is at, where it is in its job: its sector in the image, its cell in the sector.
     #[tactic(auto, unfolding(crate::specs::Loader::in_job), using(parts::proofs::Rules::tests))]
-    pub(crate) fn place<'a>(self, job: Job, image: &'a [u16]) -> Option<Place<'a>>
-        requires { JobFits job (length image.now) }
-        ensures some { is_some result ≡ in_job job self }
-        ensures place { IfSome result (λ p. (p.job ≡ job) × (p.image.now ≡ image.now) × (p.base ≡ self.base) × (p.at ≡ self.at)) }
+    pub(crate) fn place<'a>(self, work: &Work<'a>) -> Option<Place<'a>>
+        ensures some { is_some result ≡ in_job work.now.job self }
+        ensures place { IfSome result (λ p. (p.work ≡ work.now) × (p.base ≡ self.base) × (p.at ≡ self.at)) }
     {
+        let job = work.job;
         if self.base as u64 + job.size as u64 > job.count as u64 || self.at >= job.size {
             return None;
         }
         Some(Place {
-            job,
-            image,
+            work: *work,
             base: self.base,
             at: self.at,
         })
@@ -323,11 +336,10 @@ impl Loader {
 
     // The turn after a reply.
     #[tactic(auto, unfolding(crate::specs::Loader::turn_of))]
-    pub(crate) fn turn(self, job: Job, image: &[u16], seen: &mut [u16; 4096], reply: u16) -> Turn
-        requires { JobFits job (length image.now) }
-        ensures { (result ≡ (turn_of job image.now seen.old self reply).turn) × (seen.new ≡ (turn_of job image.now seen.old self reply).seen) }
+    pub(crate) fn turn(self, work: &Work, seen: &mut [u16; 4096], reply: u16) -> Turn
+        ensures { (result ≡ (turn_of work.now.job work.now.image.now seen.old self reply).turn) × (seen.new ≡ (turn_of work.now.job work.now.image.now seen.old self reply).seen) }
     {
-        let Some(place) = self.place(job, image) else {
+        let Some(place) = self.place(work) else {
             return Turn::Stop(Refusal::BadState.number());
         };
         self.keep(seen, reply);

@@ -11,19 +11,19 @@ use Rattle.job.proofs.loader.Place.fill.Goals as goal
 pub overflow_add-mark : goal.overflow_add-mark
 overflow_add-mark c = let p = c.args.self.now in
     let i = p.base + c.args.from in
-    let k = p.base + p.job.size - i in
-    let h : i + k ≤ length p.image.now = omega (arith, p.fits.count, p.in_image, c.requires) in
-    omega (arith, c.leading.ensures, leading-part c.blank-blank.result p.image.now i k h)
+    let k = p.base + p.work.job.size - i in
+    let h : i + k ≤ length p.work.image.now = omega (arith, p.work.fits.count, p.in_image, c.requires) in
+    omega (arith, c.leading.ensures, leading-part c.blank-blank.result p.work.image.now i k h)
 
 pub returns-then-mark-self : goal.returns-then-mark-self
 unfolding fill_of
 returns-then-mark-self c = let p = c.args.self.now in
-    let b = c.blank-blank.ensures ∙ blank-word _ p.fits.narrow in
+    let b = c.blank-blank.ensures ∙ blank-word _ p.work.fits.narrow in
     let to = c.moved_to.ensures in
-    simp (next-mark p.job p.image.now p.base c.args.from _ _ b c.leading.ensures, lt-ltb _ _ c.if-mark-self.true) (rw (to.job, to.base, to.at) at c.begin.ensures)
+    simp (next-mark p.work.job p.work.image.now p.base c.args.from _ _ b c.leading.ensures, lt-ltb _ _ c.if-mark-self.true) (rw (to.work, to.base, to.at) at c.begin.ensures)
 
 pub returns : goal.returns
 unfolding fill_of
 returns c = let p = c.args.self.now in
-    let b = c.blank-blank.ensures ∙ blank-word _ p.fits.narrow in
-    simp (next-mark p.job p.image.now p.base c.args.from _ _ b c.leading.ensures, le-ltb _ _ c.if-mark-self.false) c.next_sector.ensures
+    let b = c.blank-blank.ensures ∙ blank-word _ p.work.fits.narrow in
+    simp (next-mark p.work.job p.work.image.now p.base c.args.from _ _ b c.leading.ensures, le-ltb _ _ c.if-mark-self.false) c.next_sector.ensures
