@@ -184,6 +184,7 @@ impl<'a> Place<'a> {
     // The next non-blank value of an erased sector from a cell on is programmed; then the next sector.
     // Inlined, since a place that is lent to a call is held in memory: a turn is then of a third more instructions.
     #[inline(always)]
+    #[tactic(auto, unfolding(crate::specs::Loader::fill_of), using(crate::proofs::Marks::marks, parts::proofs::Rules::tests))]
     fn fill(&self, from: u32) -> Turn
         requires { from ≤ self.now.work.job.size }
         ensures { result ≡ fill_of self.now.work.job self.now.work.image.now self.now.base from }
