@@ -15,6 +15,3 @@ in-sector j l e = let w = both _ _ e in (leb-true _ _ w.0, ltb-true _ _ w.1)
 pub sector-in : (j : Job) (l : Loader) → l.base + j.size ≤ j.count → l.at < j.size → in_job j l ≡ true
 unfolding in_job
 sector-in j l a b = simp (le-leb _ _ a, lt-ltb _ _ b)
-
--- what the check proves a turn by
-pub ruleset inside = (in-sector)

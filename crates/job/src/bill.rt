@@ -3,7 +3,7 @@ ghost use Rattle.std.specs.Prelude.{◌≡◌, ◌≤◌};
 ghost use Rattle.job.specs.Formulas.{operation_time};
 ghost use Rattle.job.specs.Bill.{FullTimeFits, bill_of, full_of, job_on, load_of, refused_bill, refused_report, report_of, reported};
 
-use crate::loader::Job;
+use crate::loader::{Job, Work};
 use crate::run::{Last, MOST_CYCLES, RunEnd, Tally, run};
 use parts::Row;
 use parts::names::{PROGRAM, SECTOR};
@@ -150,7 +150,7 @@ pub fn load_first(
     match request::check_job(part, cells.len(), first, image, wp, p) {
         Ok(row) => {
             let job = job_on(row, part, first, image.len() as u32, wp, p);
-            write_report(run(cells, job, image, k.min(MOST_CYCLES)))
+            write_report(run(cells, &Work { job, image }, k.min(MOST_CYCLES)))
         }
         Err(refusal) => refused_report(refusal.number()),
     }
@@ -163,7 +163,7 @@ pub fn load(part: u32, cells: &mut [u16], first: u32, image: &[u16], wp: bool, p
     match request::check_job(part, cells.len(), first, image, wp, p) {
         Ok(row) => {
             let job = job_on(row, part, first, image.len() as u32, wp, p);
-            let ended = run(&mut *cells, job, image, MOST_CYCLES);
+            let ended = run(&mut *cells, &Work { job, image }, MOST_CYCLES);
             let from = first as usize;
             let total = values::sum(&cells[from..from + image.len()], row.width);
             write_bill(job, ended.held.tally, total, ended.answer)

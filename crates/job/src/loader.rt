@@ -1,5 +1,5 @@
 // The loader: a machine by value over replies. It never sees the cells: what it decides, it decides from what was read.
-ghost use Rattle.std.specs.Prelude.{◌≡◌, ◌+◌, ◌≤◌, ◌<◌, length, eqb, true};
+ghost use Rattle.std.specs.Prelude.{◌≡◌, ◌+◌, ◌≤◌, ◌<◌, length, eqb, is_some, IfSome};
 ghost use Rattle.parts.specs.Pick.{pick};
 ghost use Rattle.job.specs.Loader.{afterwards, begin_of, burn_of, carry_out, decide_of, driven_of, fill_of, first_step, goes_on, in_job, look_of, next_sector, purpose_of, reads_cell, scanned_of, seen_of, stage_of, turn_of};
 ghost use Rattle.job.specs.Fits.{JobFits};
@@ -78,189 +78,219 @@ impl Job {
         let loader = Loader { stage, base, at };
         Turn::Play(loader, Purpose::Scan, cycle)
     }
+}
 
+// A job and the image that it loads: it fits that.
+#[derive(Clone, Copy)]
+pub(crate) struct Work<'a> {
+    pub(crate) job: Job,
+    pub(crate) image: &'a [u16],
+    ghost fits: { JobFits job (length image.now) },
+}
+
+impl<'a> Work<'a> {
     // The sector at base is read, if there is one.
     #[tactic(auto, unfolding(crate::specs::Loader::next_sector), using(parts::proofs::Rules::tests))]
-    pub(crate) fn next_sector(self, base: u32) -> Turn
-        requires { self.first + self.count ≤ 4194304 }
-        ensures { result ≡ next_sector self base }
+    pub(crate) fn next_sector(&self, base: u32) -> Turn
+        ensures { result ≡ next_sector self.now.job base }
     {
-        if base < self.count {
-            return self.reads_cell(Stage::Scanning, base, 0);
+        if base < self.job.count {
+            return self.job.reads_cell(Stage::Scanning, base, 0);
         }
         Turn::Stop(0)
     }
+}
 
-    // The cells of an unerased sector are read again from at on; then the next sector.
-    #[tactic(auto, unfolding(crate::specs::Loader::look_of), using(parts::proofs::Rules::tests))]
-    fn look(self, base: u32, at: u32) -> Turn
-        requires count_bound { self.first + self.count ≤ 4194304 }
-        requires size_bound { base + self.size ≤ self.count }
-        ensures { result ≡ look_of self base at }
+// The cell that a loader is at, in a sector of the image.
+#[derive(Clone, Copy)]
+pub(crate) struct Place<'a> {
+    pub(crate) work: Work<'a>,
+    pub(crate) base: u32,
+    pub(crate) at: u32,
+    ghost in_image: { base + work.job.size ≤ work.job.count },
+    ghost in_sector: { at < work.job.size },
+}
+
+impl<'a> Place<'a> {
+    // Another cell of the sector.
+    fn moved_to(&self, at: u32) -> Place<'a>
+        requires { at < self.now.work.job.size }
+        ensures work { result.work ≡ self.now.work }
+        ensures base { result.base ≡ self.now.base }
+        ensures at { result.at ≡ at }
     {
-        if at < self.size {
-            return self.reads_cell(Stage::Looking, base, at);
+        Place {
+            work: self.work,
+            base: self.base,
+            at,
         }
-        self.next_sector(base + self.size)
     }
 
-    // An operation at a cell of a sector begins with its first write.
-    #[tactic(auto, unfolding(crate::specs::Loader::begin_of))]
-    fn begin(self, task: Task, base: u32, at: u32, command: u32, data: u16) -> Turn
-        requires { self.first + (base + at) ≤ 4294967295 }
-        ensures { result ≡ begin_of self task base at command «data» }
+    // The cells of an unerased sector are read again from one on; then the next sector.
+    #[tactic(auto, unfolding(crate::specs::Loader::look_of), using(parts::proofs::Rules::tests))]
+    fn look(&self, from: u32) -> Turn
+        ensures { result ≡ look_of self.now.work.job self.now.base from }
     {
-        let address = self.first + (base + at);
-        let step = driver::start_writing(self.part, command, address, data, self.p);
-        self.first_step(task, base, at, step)
+        if from < self.work.job.size {
+            return self.work.job.reads_cell(Stage::Looking, self.base, from);
+        }
+        self.work.next_sector(self.base + self.work.job.size)
+    }
+
+    // An operation at the cell begins with its first write.
+    #[tactic(auto, unfolding(crate::specs::Loader::begin_of))]
+    fn begin(&self, task: Task, command: u32, data: u16) -> Turn
+        ensures { result ≡ begin_of self.now.work.job task self.now.base self.now.at command «data» }
+    {
+        let address = self.work.job.first + (self.base + self.at);
+        let step = driver::start_writing(
+            self.work.job.part,
+            command,
+            address,
+            data,
+            self.work.job.p,
+        );
+        self.first_step(task, step)
     }
 
     // A driver's first step: its cycle, or the refusal of its start.
-    fn first_step(self, task: Task, base: u32, at: u32, step: Step) -> Turn
-        ensures { result ≡ first_step self task base at step }
+    fn first_step(&self, task: Task, step: Step) -> Turn
+        ensures { result ≡ first_step self.now.work.job task self.now.base self.now.at step }
     {
         match step.next {
             None => Turn::Stop(step.answer),
-            Some((elapsed, action)) => self.goes_on(task, base, at, step.driver, elapsed, action),
+            Some((elapsed, action)) => self.goes_on(task, step.driver, elapsed, action),
         }
     }
 
     // The cycle that a driver names.
-    fn goes_on(
-        self,
-        task: Task,
-        base: u32,
-        at: u32,
-        driver: Driver,
-        elapsed: u32,
-        action: Action,
-    ) -> Turn
-        ensures { result ≡ goes_on self task base at driver elapsed action }
+    fn goes_on(&self, task: Task, driver: Driver, elapsed: u32, action: Action) -> Turn
+        ensures { result ≡ goes_on self.now.work.job task self.now.base self.now.at driver elapsed action }
     {
         let purpose = purpose_of(driver, action);
         let cycle = Cycle {
             elapsed,
-            wp: self.wp,
+            wp: self.work.job.wp,
             action,
         };
-        let stage = Stage::Driving(task, driver);
-        let loader = Loader { stage, base, at };
+        let loader = Loader {
+            stage: Stage::Driving(task, driver),
+            base: self.base,
+            at: self.at,
+        };
         Turn::Play(loader, purpose, cycle)
     }
 
-    // The next non-blank value of an erased sector from at on is programmed; then the next sector.
-    fn fill(self, image: &[u16], base: u32, at: u32) -> Turn
-        requires job_fits { JobFits self (length image.now) }
-        requires size_bound { base + self.size ≤ self.count }
-        requires at_le_size { at ≤ self.size }
-        ensures { result ≡ fill_of self image.now base at }
+    // The next non-blank value of an erased sector from a cell on is programmed; then the next sector.
+    // Inlined, since a place that is lent to a call is held in memory: a turn is then of a third more instructions.
+    #[inline(always)]
+    #[tactic(auto, unfolding(crate::specs::Loader::fill_of), using(crate::proofs::Marks::marks, parts::proofs::Rules::tests))]
+    fn fill(&self, from: u32) -> Turn
+        requires { from ≤ self.now.work.job.size }
+        ensures { result ≡ fill_of self.now.work.job self.now.work.image.now self.now.base from }
     {
-        let from = (base + at) as usize;
-        let end = (base + self.size) as usize;
-        let mark = at as usize + values::leading(&image[from..end], parts::blank(self.row.width));
-        if mark < self.size as usize {
-            let data = image[base as usize + mark];
-            return self.begin(Task::Filling, base, mark as u32, PROGRAM, data);
+        let start = (self.base + from) as usize;
+        let end = (self.base + self.work.job.size) as usize;
+        let blank = parts::blank(self.work.job.row.width);
+        let mark = from as usize + values::leading(&self.work.image[start..end], blank);
+        if mark < self.work.job.size as usize {
+            let data = self.work.image[self.base as usize + mark];
+            return self
+                .moved_to(mark as u32)
+                .begin(Task::Filling, PROGRAM, data);
         }
-        self.next_sector(base + self.size)
+        self.work.next_sector(self.base + self.work.job.size)
     }
 
     // A cell of an unerased sector whose value differs is programmed at once.
     #[tactic(auto, unfolding(crate::specs::Loader::burn_of), using(parts::proofs::Rules::tests))]
-    fn burn(self, image: &[u16], base: u32, at: u32, reply: u16) -> Turn
-        requires job_fits { JobFits self (length image.now) }
-        requires size_bound { base + self.size ≤ self.count }
-        requires at_lt_size { at < self.size }
-        ensures { result ≡ burn_of self image.now base at reply }
+    fn burn(&self, reply: u16) -> Turn
+        ensures { result ≡ burn_of self.now.work.job self.now.work.image.now self.now.base self.now.at reply }
     {
-        let data = image[(base + at) as usize];
-        if parts::value(self.row.width, reply) == data {
-            return self.look(base, at + 1);
+        let data = self.work.image[(self.base + self.at) as usize];
+        if parts::value(self.work.job.row.width, reply) == data {
+            return self.look(self.at + 1);
         }
-        self.begin(Task::Burning, base, at, PROGRAM, data)
+        self.begin(Task::Burning, PROGRAM, data)
     }
 
     // What a decision asks for is begun: the sector's erase, or its cells are read again.
-    fn carry_out(self, decision: Decision, base: u32) -> Turn
-        requires count_bound { self.first + self.count ≤ 4194304 }
-        requires size_bound { base + self.size ≤ self.count }
-        ensures { result ≡ carry_out self base decision }
+    fn carry_out(&self, decision: Decision) -> Turn
+        ensures { result ≡ carry_out self.now.work.job self.now.base decision }
     {
         match decision {
-            Decision::NoErase => self.look(base, 0),
-            Decision::SectorErase => self.begin(Task::Erasing, base, 0, SECTOR, 0),
+            Decision::NoErase => self.look(0),
+            Decision::SectorErase => self.moved_to(0).begin(Task::Erasing, SECTOR, 0),
         }
     }
 
     // The sector's decision, from the values seen.
-    fn decide(self, image: &[u16], seen: &[u16], base: u32) -> Turn
-        requires job_fits { JobFits self (length image.now) }
-        requires size_bound { base + self.size ≤ self.count }
-        requires size_in_bounds { self.size ≤ length seen.now }
-        ensures { result ≡ decide_of self image.now seen.now base }
+    #[tactic(auto, unfolding(crate::specs::Loader::decide_of))]
+    fn decide(&self, seen: &[u16; 4096]) -> Turn
+        ensures { result ≡ decide_of self.now.work.job self.now.work.image.now seen.now self.now.base }
     {
-        let size = self.size as usize;
-        let from = base as usize;
-        let end = from + size;
-        let decision = values::decision_of(&seen[..size], &image[from..end], self.row.width);
-        self.carry_out(decision, base)
+        let size = self.work.job.size as usize;
+        let image = &self.work.image[self.base as usize..][..size];
+        let decision = values::decision_of(&seen[..size], image, self.work.job.row.width);
+        self.carry_out(decision)
     }
 
     // What follows an operation.
-    fn then(self, image: &[u16], task: Task, base: u32, at: u32) -> Turn
-        requires job_fits { JobFits self (length image.now) }
-        requires size_bound { base + self.size ≤ self.count }
-        requires at_lt_size { at < self.size }
-        ensures { result ≡ afterwards self image.now task base at }
+    fn then(&self, task: Task) -> Turn
+        ensures { result ≡ afterwards self.now.work.job self.now.work.image.now task self.now.base self.now.at }
     {
         match task {
-            Task::Erasing => self.fill(image, base, 0),
-            Task::Filling => self.fill(image, base, at + 1),
-            Task::Burning => self.look(base, at + 1),
+            Task::Erasing => self.fill(0),
+            Task::Filling => self.fill(self.at + 1),
+            Task::Burning => self.look(self.at + 1),
         }
     }
 
     // A driver's step: its cycle, or what follows.
     #[tactic(auto, unfolding(crate::specs::Loader::driven_of))]
-    fn driven(self, image: &[u16], task: Task, base: u32, at: u32, step: Step) -> Turn
-        requires job_fits { JobFits self (length image.now) }
-        requires size_bound { base + self.size ≤ self.count }
-        requires at_lt_size { at < self.size }
-        ensures { result ≡ driven_of self image.now task base at step }
+    fn driven(&self, task: Task, step: Step) -> Turn
+        ensures { result ≡ driven_of self.now.work.job self.now.work.image.now task self.now.base self.now.at step }
     {
         match step.next {
-            None => self.operation_ended(image, task, base, at, step.answer),
-            Some((elapsed, action)) => self.goes_on(task, base, at, step.driver, elapsed, action),
+            None => self.operation_ended(task, step.answer),
+            Some((elapsed, action)) => self.goes_on(task, step.driver, elapsed, action),
         }
     }
 
     // An operation has ended.
     #[tactic(auto, using(parts::proofs::Rules::tests))]
-    fn operation_ended(self, image: &[u16], task: Task, base: u32, at: u32, answer: u32) -> Turn
-        requires job_fits { JobFits self (length image.now) }
-        requires size_bound { base + self.size ≤ self.count }
-        requires at_lt_size { at < self.size }
-        ensures { result ≡ pick (eqb answer 0) (afterwards self image.now task base at) (Turn.Stop answer) }
+    fn operation_ended(&self, task: Task, answer: u32) -> Turn
+        ensures { result ≡ pick (eqb answer 0) (afterwards self.now.work.job self.now.work.image.now task self.now.base self.now.at) (Turn.Stop answer) }
     {
         if answer == 0 {
-            return self.then(image, task, base, at);
+            return self.then(task);
         }
         Turn::Stop(answer)
     }
 
     // The scan goes on to the sector's end, then decides.
     #[tactic(auto, unfolding(crate::specs::Loader::scanned_of), using(parts::proofs::Rules::tests))]
-    fn scanned(self, image: &[u16], seen: &[u16], base: u32, at: u32) -> Turn
-        requires job_fits { JobFits self (length image.now) }
-        requires size_bound { base + self.size ≤ self.count }
-        requires at_lt_size { at < self.size }
-        requires size_in_bounds { self.size ≤ length seen.now }
-        ensures { result ≡ scanned_of self image.now seen.now base at }
+    fn scanned(&self, seen: &[u16; 4096]) -> Turn
+        ensures { result ≡ scanned_of self.now.work.job self.now.work.image.now seen.now self.now.base self.now.at }
     {
-        if at + 1 < self.size {
-            return self.reads_cell(Stage::Scanning, base, at + 1);
+        if self.at + 1 < self.work.job.size {
+            return self
+                .work
+                .job
+                .reads_cell(Stage::Scanning, self.base, self.at + 1);
         }
-        self.decide(image, seen, base)
+        self.decide(seen)
+    }
+
+    // What a stage does, the reply of a scan being among the values seen.
+    fn stage_turn(&self, stage: Stage, seen: &[u16; 4096], reply: u16) -> Turn
+        ensures { result ≡ stage_of self.now.work.job self.now.work.image.now seen.now stage self.now.base self.now.at reply }
+    {
+        match stage {
+            Stage::Scanning => self.scanned(seen),
+            Stage::Looking => self.burn(reply),
+            Stage::Driving(task, driver) => self.driven(task, driver.step(reply)),
+        }
     }
 }
 
@@ -278,27 +308,21 @@ fn purpose_of(d: Driver, action: Action) -> Purpose
 }
 
 impl Loader {
-    // Whether the loader is in its job: its sector in the image, its cell in the sector.
+    // The place that the loader is at, where it is in its job: its sector in the image, its cell in the sector.
     #[tactic(auto, unfolding(crate::specs::Loader::in_job), using(parts::proofs::Rules::tests))]
-    pub(crate) fn is_in_job(self, job: Job) -> bool
-        ensures { result ≡ in_job job self }
+    pub(crate) fn place<'a>(self, work: &Work<'a>) -> Option<Place<'a>>
+        ensures some { is_some result ≡ in_job work.now.job self }
+        ensures place { IfSome result (λ p. (p.work ≡ work.now) × (p.base ≡ self.base) × (p.at ≡ self.at)) }
     {
-        self.base as u64 + job.size as u64 <= job.count as u64 && self.at < job.size
-    }
-
-    // What the stage does, the reply of a scan being among the values seen.
-    fn stage_turn(self, job: Job, image: &[u16], seen: &[u16], reply: u16) -> Turn
-        requires job_fits { JobFits job (length image.now) }
-        requires size_bound { self.base + job.size ≤ job.count }
-        requires at_lt_size { self.at < job.size }
-        requires size_in_bounds { job.size ≤ length seen.now }
-        ensures { result ≡ stage_of job image.now seen.now self.stage self.base self.at reply }
-    {
-        match self.stage {
-            Stage::Scanning => job.scanned(image, seen, self.base, self.at),
-            Stage::Looking => job.burn(image, self.base, self.at, reply),
-            Stage::Driving(task, d) => job.driven(image, task, self.base, self.at, d.step(reply)),
+        let job = work.job;
+        if self.base as u64 + job.size as u64 > job.count as u64 || self.at >= job.size {
+            return None;
         }
+        Some(Place {
+            work: *work,
+            base: self.base,
+            at: self.at,
+        })
     }
 
     // A scan's reply is kept among the values seen.
@@ -312,15 +336,14 @@ impl Loader {
     }
 
     // The turn after a reply.
-    #[tactic(auto, unfolding(crate::specs::Loader::turn_of), using(crate::proofs::InJob::inside))]
-    pub(crate) fn turn(self, job: Job, image: &[u16], seen: &mut [u16; 4096], reply: u16) -> Turn
-        requires { JobFits job (length image.now) }
-        ensures { (result ≡ (turn_of job image.now seen.old self reply).turn) × (seen.new ≡ (turn_of job image.now seen.old self reply).seen) }
+    #[tactic(auto, unfolding(crate::specs::Loader::turn_of))]
+    pub(crate) fn turn(self, work: &Work, seen: &mut [u16; 4096], reply: u16) -> Turn
+        ensures { (result ≡ (turn_of work.now.job work.now.image.now seen.old self reply).turn) × (seen.new ≡ (turn_of work.now.job work.now.image.now seen.old self reply).seen) }
     {
-        if !self.is_in_job(job) {
+        let Some(place) = self.place(work) else {
             return Turn::Stop(Refusal::BadState.number());
-        }
+        };
         self.keep(seen, reply);
-        self.stage_turn(job, image, &seen[..], reply)
+        place.stage_turn(self.stage, seen, reply)
     }
 }

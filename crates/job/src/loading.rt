@@ -1,10 +1,9 @@
 // The loader for a real socket: begun once, and then turn by turn given the value last read. It has a bus, and no cells.
-ghost use Rattle.std.specs.Prelude.{◌≡◌, ◌+◌, ◌≤◌, ◌<◌, length};
-ghost use Rattle.job.specs.Fits.{JobFits};
+ghost use Rattle.std.specs.Prelude.{◌≡◌};
 ghost use Rattle.job.specs.Loading.{asked_for, begin_load, is_ending, job_turn, loader_in_range, load_turn, load_turn_of, loading, moved_to, new_driver, progress_in_range, same_asked, stops_with, taken};
 
 use crate::bill::job_on;
-use crate::loader::{Job, Loader, Purpose, Stage, Task, Turn};
+use crate::loader::{Job, Loader, Place, Purpose, Stage, Task, Turn, Work};
 use device::Cycle;
 use driver::{Driver, Phase};
 use parts::Refusal;
@@ -112,51 +111,49 @@ impl Job {
             count: 0,
         }
     }
+}
 
-    // What a task asks a driver for, at a cell of a sector.
-    fn asked_for(self, image: &[u16], task: Task, base: u32, at: u32) -> Driver
-        requires at_bound { self.first + (base + at) ≤ 4294967295 }
-        requires at_in_bounds { base + at < length image.now }
-        ensures { result ≡ asked_for self image.now task base at }
+impl<'a> Place<'a> {
+    // What a task asks a driver for at the cell.
+    fn asked_for(&self, task: Task) -> Driver
+        ensures { result ≡ asked_for self.now.work.job self.now.work.image.now task self.now.base self.now.at }
     {
-        let place = self.first + (base + at);
-        let data = image[(base + at) as usize];
+        let job = self.work.job;
+        let address = job.first + (self.base + self.at);
+        let data = self.work.image[(self.base + self.at) as usize];
         match task {
-            Task::Erasing => self.driver_of(SECTOR, self.first + base, 0),
-            Task::Filling => self.driver_of(PROGRAM, place, data),
-            Task::Burning => self.driver_of(PROGRAM, place, data),
+            Task::Erasing => job.driver_of(SECTOR, job.first + self.base, 0),
+            Task::Filling | Task::Burning => job.driver_of(PROGRAM, address, data),
         }
     }
 }
 
 impl Loader {
     // Whether the loader is one that its job can have: in it, at a sector's first cell, and a driver asks for what its task does.
-    #[tactic(auto, unfolding(crate::specs::Loading::loader_in_range), using(crate::proofs::InJob::inside, parts::proofs::Rules::tests))]
-    fn is_in_range(self, job: Job, image: &[u16]) -> bool
-        requires { JobFits job (length image.now) }
-        ensures { result ≡ loader_in_range job image.now self }
+    #[tactic(auto, unfolding(crate::specs::Loading::loader_in_range), using(parts::proofs::Rules::tests))]
+    fn is_in_range(self, work: &Work) -> bool
+        ensures { result ≡ loader_in_range work.now.job work.now.image.now self }
     {
-        if !self.is_in_job(job) || self.base % job.size != 0 {
+        let Some(place) = self.place(work) else {
+            return false;
+        };
+        if self.base % work.job.size != 0 {
             return false;
         }
         match self.stage {
             Stage::Scanning | Stage::Looking => true,
-            Stage::Driving(task, d) => same_asked(
-                d,
-                job.asked_for(image, task, self.base, self.at),
-            ),
+            Stage::Driving(task, d) => same_asked(d, place.asked_for(task)),
         }
     }
 }
 
 // Whether a job can be as far as this.
-fn progress_in_range(job: Job, image: &[u16], progress: Progress) -> bool
-    requires { JobFits job (length image.now) }
-    ensures { result ≡ progress_in_range job image.now progress }
+fn progress_in_range(work: &Work, progress: Progress) -> bool
+    ensures { result ≡ progress_in_range work.now.job work.now.image.now progress }
 {
     match progress {
         Progress::Waiting => true,
-        Progress::Within(loader) => loader.is_in_range(job, image),
+        Progress::Within(loader) => loader.is_in_range(work),
         Progress::Over(n) => is_ending(n),
     }
 }
@@ -207,16 +204,15 @@ impl Loading {
 
     // A turn of the job that the state is of.
     #[tactic(auto, unfolding(crate::specs::Loading::job_turn))]
-    fn job_turn(self, job: Job, image: &[u16], seen: &mut [u16; 4096], read: u16) -> LoadTurn
-        requires { JobFits job (length image.now) }
-        ensures { (result ≡ (job_turn self job image.now seen.old read).turn) × (seen.new ≡ (job_turn self job image.now seen.old read).seen) }
+    fn job_turn(self, work: &Work, seen: &mut [u16; 4096], read: u16) -> LoadTurn
+        ensures { (result ≡ (job_turn self work.now.job work.now.image.now seen.old read).turn) × (seen.new ≡ (job_turn self work.now.job work.now.image.now seen.old read).seen) }
     {
-        if !progress_in_range(job, image, self.progress) {
+        if !progress_in_range(work, self.progress) {
             return self.answers(Refusal::BadState.number());
         }
         match self.progress {
-            Progress::Waiting => self.taken(job.next_sector(0)),
-            Progress::Within(loader) => self.taken(loader.turn(job, image, seen, read)),
+            Progress::Waiting => self.taken(work.next_sector(0)),
+            Progress::Within(loader) => self.taken(loader.turn(work, seen, read)),
             Progress::Over(n) => self.stops_with(n),
         }
     }
@@ -230,7 +226,7 @@ impl Loading {
         match checked {
             Ok(row) if self.count as usize == image.len() => {
                 let job = job_on(row, self.part, self.first, self.count, self.wp, self.p);
-                self.job_turn(job, image, seen, read)
+                self.job_turn(&Work { job, image }, seen, read)
             }
             _ => self.answers(Refusal::BadState.number()),
         }

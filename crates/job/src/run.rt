@@ -1,9 +1,9 @@
 // The run: the loader's cycles are sent one by one through the bus cycle, and counted.
-ghost use Rattle.std.specs.Prelude.{◌≡◌, ◌<◌, ◌≤◌, length};
-ghost use Rattle.job.specs.Fits.{CountsFit, JobFits, MOST-CYCLES};
+ghost use Rattle.std.specs.Prelude.{◌≡◌, ◌<◌, ◌≤◌};
+ghost use Rattle.job.specs.Fits.{CountsFit, MOST-CYCLES};
 ghost use Rattle.job.specs.Run.{begun_of, counted_of, run_end, last_of, none_sent, run_from, send_of, stop_from, stop_number, world};
 
-use crate::loader::{Job, Purpose, Turn};
+use crate::loader::{Purpose, Turn, Work};
 use device::{Action, Cycle, Device};
 use parts::names::{A_READ, A_WRITE, PROGRAM};
 
@@ -156,21 +156,20 @@ fn stop_number(turn: Turn) -> u32
 }
 
 // Sends the loader's cycles, at most k.
-pub(crate) fn run(cells: &mut [u16], job: Job, image: &[u16], k: u64) -> RunEnd
-    requires job_fits { JobFits job (length image.now) }
-    requires k_bound { k ≤ MOST-CYCLES }
-    ensures { (result ≡ run_end (run_from job image.now cells.old k).held (stop_from job image.now cells.old k)) × (cells.new ≡ (run_from job image.now cells.old k).cells) }
+pub(crate) fn run(cells: &mut [u16], work: &Work, k: u64) -> RunEnd
+    requires { k ≤ MOST-CYCLES }
+    ensures { (result ≡ run_end (run_from work.now.job work.now.image.now cells.old k).held (stop_from work.now.job work.now.image.now cells.old k)) × (cells.new ≡ (run_from work.now.job work.now.image.now cells.old k).cells) }
 {
     let mut seen = [0u16; 4096];
     let mut held = none_sent();
-    let mut turn = job.next_sector(0);
+    let mut turn = work.next_sector(0);
     while held.sent < k {
         let Turn::Play(loader, purpose, cycle) = turn else {
             let answer = stop_number(turn);
             return RunEnd { held, answer };
         };
-        held = send(job.part, &mut *cells, held, purpose, cycle);
-        turn = loader.turn(job, image, &mut seen, held.reply);
+        held = send(work.job.part, &mut *cells, held, purpose, cycle);
+        turn = loader.turn(work, &mut seen, held.reply);
     }
     let answer = stop_number(turn);
     RunEnd { held, answer }

@@ -2,16 +2,15 @@ use Prim.Native.Nat.{◌+◌, ◌-◌}
 use mathlib.Core.Path.{◌≡◌, sym}
 use native.Mathlib.Omega.{arith}
 use lib.ListN.{length}
-use borrow.Author.Rules.{rules}
 use Rattle.job.proofs.Billing.{image-few, range-fits, kept, timed, few-sent, bills, job-known, refuses-load}
 use Rattle.job.proofs.bill.load.Goals as goal
 
 pub overflow_cast-image : goal.overflow_cast-image
 overflow_cast-image c = let g = c.args in omega (arith, image-few g.part g.first g.image.now g.cells.now g.wp g.p (sym c.in-Ok.ensures.answer))
 
-pub run-ended-requires : goal.run-ended-requires
-run-ended-requires c = let g = c.args in
-    record { job_fits = rw (job-known c.in-Ok.ensures.row c.job_on-job.ensures) (kept g.part g.first g.image.now g.cells.now g.wp g.p (sym c.in-Ok.ensures.answer)); k_bound = search rules }
+pub invariant_of-run : goal.invariant_of-run
+invariant_of-run c = let g = c.args in
+    record { fits = rw (job-known c.in-Ok.ensures.row c.job_on-job.ensures) (kept g.part g.first g.image.now g.cells.now g.wp g.p (sym c.in-Ok.ensures.answer)) }
 
 pub slice_bounds-sum-end : goal.slice_bounds-sum-end
 slice_bounds-sum-end c = let g = c.args in

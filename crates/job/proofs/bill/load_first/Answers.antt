@@ -1,15 +1,14 @@
 use mathlib.Core.Path.{sym}
 use native.Mathlib.Omega.{arith}
-use borrow.Author.Rules.{rules}
 use Rattle.job.proofs.Billing.{image-few, kept, few-sent, reports, job-known, refuses-report}
 use Rattle.job.proofs.bill.load_first.Goals as goal
 
 pub overflow_cast-image : goal.overflow_cast-image
 overflow_cast-image c = let g = c.args in omega (arith, image-few g.part g.first g.image.now g.cells.now g.wp g.p (sym c.in-Ok.ensures.answer))
 
-pub run-requires : goal.run-requires
-run-requires c = let g = c.args in
-    record { job_fits = rw (job-known c.in-Ok.ensures.row c.job_on-job.ensures) (kept g.part g.first g.image.now g.cells.now g.wp g.p (sym c.in-Ok.ensures.answer)); k_bound = search rules }
+pub invariant_of-run : goal.invariant_of-run
+invariant_of-run c = let g = c.args in
+    record { fits = rw (job-known c.in-Ok.ensures.row c.job_on-job.ensures) (kept g.part g.first g.image.now g.cells.now g.wp g.p (sym c.in-Ok.ensures.answer)) }
 
 pub returns-in-Ok : goal.returns-in-Ok
 returns-in-Ok c = let g = c.args in
