@@ -9,6 +9,7 @@ use parts::Row;
 use parts::names::{PROGRAM, SECTOR};
 
 // The bill: µs saved and spent, then counts, the sum, and 0 or the refusal.
+// kept: the C interface: bill and report cross C as they are
 #[repr(C)]
 #[derive(Clone, Copy, Default)]
 pub struct Bill {
