@@ -1,5 +1,5 @@
 -- Answers of calls that may be refused: a refusal's number is not 0, it is no other refusal's, and what such a call hands back is determined by its answer and its value.
-use Rattle.std.specs.Prelude.{ℕ, ◌≡◌, Result, Ok, Err, IfOk, get_or, List, [], ◌∷◌}
+use Rattle.std.specs.Prelude.{ℕ, ◌≡◌, Result, Ok, Err, IfOk, get_or, [], ◌∷◌}
 use mathlib.Core.Path.{refl, sym, ap, ◌∙◌}
 use native.Mathlib.Omega.{arith}
 use Rattle.parts.specs.Pick.{◌or_else◌}

@@ -72,3 +72,6 @@ fits_word w x h = by (leb 16 w) refl
 -- blank AND a word that fits is that word
 pub blank-and : (w x : ℕ) → fits_in w x ≡ true → bit_and (blank_of w) x ≡ x
 blank-and w x f = and_comm (blank_of w) x ∙ (and_mask x w ∙ value_same w x (fits_lt w x f))
+
+-- what the check proves `blank` and `fits` by
+pub ruleset ones = (value-ones, fits_word)

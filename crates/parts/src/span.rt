@@ -1,5 +1,5 @@
 // The ranges of a part: an address's sector and block, and the protected end.
-ghost use Rattle.std.specs.Prelude.{◌≡◌, ◌-◌};
+ghost use Rattle.std.specs.Prelude.{◌≡◌};
 ghost use Rattle.parts.specs.Span.{block_of, has_blocks, holdsb, protected_of, range_of, sector_of};
 ghost use Rattle.parts.specs.Width.{sector_size};
 
@@ -14,13 +14,11 @@ pub struct Span {
 
 impl Span {
     // Whether the range holds an address.
+    #[tactic(auto, unfolding(crate::specs::Span::holdsb), using(crate::proofs::Rules::tests))]
     pub fn holds(self, address: u32) -> bool
         ensures { result ≡ holdsb self address }
     {
-        if address < self.first {
-            return false;
-        }
-        address - self.first < self.count
+        self.first <= address && address - self.first < self.count
     }
 }
 
@@ -37,28 +35,20 @@ fn range(size: u32, address: u32) -> Span
     }
 }
 
-// The last address of so many cells.
-fn last(cells: u32) -> u32
-    ensures { result ≡ cells - 1 }
-{
-    if cells == 0 {
-        return 0;
-    }
-    cells - 1
-}
-
 impl Row {
     // How many cells a sector has.
+    #[tactic(auto, unfolding(crate::specs::Width::sector_size), using(crate::proofs::Rules::tests))]
     pub fn sector_size(self) -> u32
         ensures { result ≡ sector_size self.width }
     {
-        if self.width == 8 {
-            return 4096;
+        match self.width {
+            8 => 4096,
+            _ => 2048,
         }
-        2048
     }
 
     // The sector of an address.
+    #[tactic(auto, unfolding(crate::specs::Span::sector_of))]
     pub fn sector_of(self, address: u32) -> Span
         ensures { result ≡ sector_of self address }
     {
@@ -66,6 +56,7 @@ impl Row {
     }
 
     // Whether the part has blocks.
+    #[tactic(auto, unfolding(crate::specs::Span::has_blocks))]
     pub fn has_blocks(self) -> bool
         ensures { result ≡ has_blocks self }
     {
@@ -73,6 +64,7 @@ impl Row {
     }
 
     // The block of an address; no cells where the part has no blocks.
+    #[tactic(auto, unfolding(crate::specs::Span::block_of))]
     pub fn block_of(self, address: u32) -> Span
         ensures { result ≡ block_of self address }
     {
@@ -84,11 +76,10 @@ impl Row {
     pub fn protected_range(self) -> Span
         ensures { result ≡ protected_of self }
     {
-        let end = self.protected;
-        match end {
+        match self.protected {
             End::Neither => Span { first: 0, count: 0 },
             End::Lowest => self.block_of(0),
-            End::Highest => self.block_of(last(self.cells)),
+            End::Highest => self.block_of(self.cells.saturating_sub(1)),
         }
     }
 }

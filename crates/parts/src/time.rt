@@ -6,50 +6,39 @@ use crate::Row;
 use crate::names::{BLOCK, CHIP};
 
 // Whether p is a polling interval: 1 to 1,000 µs.
+#[tactic(auto, unfolding(crate::specs::Time::is_interval), using(crate::proofs::Rules::tests))]
 pub fn is_interval(p: u32) -> bool
     ensures { result ≡ is_interval p }
 {
-    if p < 1 {
-        return false;
-    }
-    p <= 1000
+    1 <= p && p <= 1000
 }
 
 // T / p rounded up; 0 for no p.
+#[tactic(auto, unfolding(crate::specs::Time::rounded_up), using(crate::proofs::Rules::tests))]
 pub fn rounded_up(time: u32, p: u32) -> u32
     ensures { result ≡ rounded_up time p }
 {
     if p == 0 {
         return 0;
     }
-    if time == 0 {
-        return 0;
-    }
-    (time - 1) / p + 1
+    time.div_ceil(p)
 }
 
 impl Row {
     // Whether the part has a command: block only where it has blocks.
+    #[tactic(auto, unfolding(crate::specs::Time::has_command), using(crate::proofs::Rules::tests))]
     pub fn has_command(self, command: u32) -> bool
         ensures { result ≡ has_command self command }
     {
-        if CHIP < command {
-            return false;
-        }
-        if command == BLOCK {
-            return self.has_blocks();
-        }
-        true
+        command <= CHIP && (command != BLOCK || self.has_blocks())
     }
 
     // The table time of a command, in the order of their numbers; 0 for none of these.
+    #[tactic(auto, unfolding(crate::specs::Time::time_of))]
     pub fn time(self, command: u32) -> u32
         ensures { result ≡ time_of self command }
     {
         let times = [self.program, self.erase, self.erase, self.chip];
-        if CHIP < command {
-            return 0;
-        }
-        times[command as usize]
+        times.get(command as usize).copied().unwrap_or(0)
     }
 }

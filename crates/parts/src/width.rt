@@ -14,6 +14,7 @@ pub fn value(width: u32, x: u16) -> u16
 }
 
 // Blank, as a word of 16 bits.
+#[tactic(auto, using(crate::proofs::Values::ones))]
 pub fn blank(width: u32) -> u16
     ensures { result ≡ value_of 16 (blank_of width) }
 {
@@ -21,6 +22,7 @@ pub fn blank(width: u32) -> u16
 }
 
 // Whether x is a value of the width: not above blank.
+#[tactic(auto, using(crate::proofs::Values::ones))]
 pub fn fits(width: u32, x: u16) -> bool
     ensures { result ≡ fits_in width x }
 {
