@@ -20,5 +20,8 @@ pub fn part_figure(part: u32, column: u32) -> Result<u32, Refusal>
         row.erase,
         row.chip,
     ];
-    columns.get(column as usize).copied().ok_or(Refusal::NoEntry)
+    columns
+        .get(column as usize)
+        .copied()
+        .ok_or(Refusal::NoEntry)
 }
