@@ -1,6 +1,5 @@
 // The bill of a job file: refused with 13, or that of its job on a blank bench part.
 ghost use Rattle.std.specs.Prelude.{◌≡◌, ◌≤◌};
-ghost use Rattle.job.specs.Bill.{refused_bill};
 ghost use Rattle.billing.specs.File.{bill_of_file, bill_of_job};
 
 use job::Bill;
@@ -9,16 +8,6 @@ use parts::Refusal;
 
 // The bytes of the longest file that is taken.
 const LONGEST: usize = 20480;
-
-// The bill of a file that is refused.
-fn refused() -> Bill
-    ensures { result ≡ refused_bill 13 }
-{
-    Bill {
-        answer: Refusal::BadFile.number(),
-        ..Bill::default()
-    }
-}
 
 // The bill of the job that a file asks for, on a blank bench part.
 fn bill_job(file: &[u8], asked: JobFile) -> Bill
@@ -44,12 +33,9 @@ fn bill_job(file: &[u8], asked: JobFile) -> Bill
 pub fn bill_file(file: &[u8]) -> Bill
     ensures { result ≡ bill_of_file file.now }
 {
-    if LONGEST < file.len() {
-        return refused();
-    }
     let asked = jobfile::read_job(file);
-    if 0 < asked.answer {
-        return refused();
+    if LONGEST < file.len() || 0 < asked.answer {
+        return Bill::from(Refusal::BadFile);
     }
     bill_job(file, asked)
 }

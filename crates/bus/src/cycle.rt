@@ -14,6 +14,7 @@ const IDENTIFICATION: u32 = 1;
 const NO_STAGE: u32 = 7;
 
 // An operation as numbers: toggle 0 or 1.
+// kept: the C interface: the numbers of this file cross C as they are
 #[repr(C)]
 #[derive(Clone, Copy)]
 pub struct OperationNumbers {

@@ -19,6 +19,7 @@ pub enum Mode {
 }
 
 // What follows: the sequence goes on to a stage, a command's operation starts, or a mode is entered.
+// kept: what may not change: stage and command are the numbers of a device, of which `bus_cycle` takes any
 #[derive(Clone, Copy, PartialEq, Eq, Debug)]
 pub enum Effect {
     Goes(u32),

@@ -38,6 +38,7 @@ pub struct Driver {
 }
 
 // A start: 0 or the refusal, and the driver.
+// kept: what may not change: beside a refusal stands the all-zero driver (`start`, demands' `start-refuses`, `refused-start-steps`)
 #[derive(Clone, Copy)]
 pub struct Started {
     pub answer: u32,
@@ -47,6 +48,7 @@ pub struct Started {
 // A step's answer: 0 with a cycle; 0, 11 or 12 at the end; or the refusal 5. Then the driver
 // handed back, the cycle, if one is named (the µs since the last one and what it does; the caller
 // sets WP#), and the polls named so far.
+// kept: what may not change: driver and polls stand beside each answer (`step`, demands' `step-refuses`, driver's `Ended`, `Meaning`)
 #[derive(Clone, Copy)]
 pub struct Step {
     pub answer: u32,
@@ -115,7 +117,6 @@ fn no_driver() -> Driver
 }
 
 // Starts a command, polled every p µs: refusals 1, 10, 14, 3, 4. A refused start hands back the all-zero state.
-// kept: what may not change: a refused start's state, which its clause, demands' `start-refuses` and `refused-start-steps` speak of
 #[tactic(auto, unfolding(crate::specs::Machine::start_of), using(crate::proofs::Begins::starts))]
 pub fn start(part: u32, command: u32, address: u32, data: u16, p: u32) -> Started
     ensures { result ≡ start_of part command address «data» p }
@@ -370,6 +371,7 @@ impl Driver {
                 polls: 0,
             };
         };
+        // kept: the C interface: a phase crosses C as a number between two steps, which a closure could not
         match self.phase {
             Phase::Writing => checked.write_on(),
             Phase::Polling => checked.poll_on(read),

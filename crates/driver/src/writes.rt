@@ -10,6 +10,7 @@ use parts::names::{BLOCK, PROGRAM, SECTOR};
 use parts::{Refusal, Row};
 
 // One command's writes: how many they are, and the writes, unused places zero.
+// kept: a rule of the project (no heap): four or six writes in a fixed number of places
 #[derive(Clone, Copy)]
 pub struct Writes {
     pub count: u32,

@@ -1,14 +1,16 @@
 // The job, the second call, and the bill.
 ghost use Rattle.std.specs.Prelude.{◌≡◌, ◌≤◌};
+ghost use Rattle.parts.specs.Refused.{number_of};
 ghost use Rattle.job.specs.Formulas.{operation_time};
 ghost use Rattle.job.specs.Bill.{FullTimeFits, bill_of, full_of, job_on, load_of, refused_bill, refused_report, report_of, reported};
 
 use crate::loader::{Job, Work};
 use crate::run::{Last, MOST_CYCLES, RunEnd, Tally, run};
-use parts::Row;
 use parts::names::{PROGRAM, SECTOR};
+use parts::{Refusal, Row};
 
 // The bill: µs saved and spent, then counts, the sum, and 0 or the refusal.
+// kept: the C interface: bill and report cross C as they are
 #[repr(C)]
 #[derive(Clone, Copy, Default)]
 pub struct Bill {
@@ -55,22 +57,26 @@ pub(crate) fn job_on(row: Row, part: u32, first: u32, count: u32, wp: bool, p: u
 }
 
 // The bill of a refusal.
-fn refused_bill(answer: u32) -> Bill
-    ensures { result ≡ refused_bill answer }
-{
-    Bill {
-        answer,
-        ..Bill::default()
+impl From<Refusal> for Bill {
+    ghost from_gives = { λ e b. b ≡ refused_bill (number_of e) };
+
+    fn from(refusal: Refusal) -> Bill {
+        Bill {
+            answer: refusal.number(),
+            ..Bill::default()
+        }
     }
 }
 
 // The report of a refusal.
-fn refused_report(answer: u32) -> Report
-    ensures { result ≡ refused_report answer }
-{
-    Report {
-        answer,
-        ..Report::default()
+impl From<Refusal> for Report {
+    ghost from_gives = { λ e r. r ≡ refused_report (number_of e) };
+
+    fn from(refusal: Refusal) -> Report {
+        Report {
+            answer: refusal.number(),
+            ..Report::default()
+        }
     }
 }
 
@@ -152,7 +158,7 @@ pub fn load_first(
             let job = job_on(row, part, first, image.len() as u32, wp, p);
             write_report(run(cells, &Work { job, image }, k.min(MOST_CYCLES)))
         }
-        Err(refusal) => refused_report(refusal.number()),
+        Err(refusal) => Report::from(refusal),
     }
 }
 
@@ -168,6 +174,6 @@ pub fn load(part: u32, cells: &mut [u16], first: u32, image: &[u16], wp: bool, p
             let total = values::sum(&cells[from..from + image.len()], row.width);
             write_bill(job, ended.held.tally, total, ended.answer)
         }
-        Err(refusal) => refused_bill(refusal.number()),
+        Err(refusal) => Bill::from(refusal),
     }
 }

@@ -57,6 +57,7 @@ pub enum Purpose {
 }
 
 // The next cycle with its purpose, or the end: 0, or what a driver ended with.
+// kept: no plainer: a Result's Err would be the end of every job, and Stop(0) its success
 #[derive(Clone, Copy)]
 pub enum Turn {
     Play(Loader, Purpose, Cycle),
@@ -286,6 +287,7 @@ impl<'a> Place<'a> {
     fn stage_turn(&self, stage: Stage, seen: &[u16; 4096], reply: u16) -> Turn
         ensures { result ≡ stage_of self.now.work.job self.now.work.image.now seen.now stage self.now.base self.now.at reply }
     {
+        // kept: the C interface: a stage crosses C as numbers between two turns, which a closure could not
         match stage {
             Stage::Scanning => self.scanned(seen),
             Stage::Looking => self.burn(reply),

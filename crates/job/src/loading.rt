@@ -29,6 +29,7 @@ pub struct Loading {
 }
 
 // A begin's answer: 0 or the refusal, and the job.
+// kept: what may not change: beside a refusal stands the all-zero job (`begin_load`, demands' `begin-refuses`, `zero-refused`)
 #[derive(Clone, Copy)]
 pub struct Begun {
     pub answer: u32,
@@ -37,6 +38,7 @@ pub struct Begun {
 
 // A turn's answer: 0 with a cycle; 0, 11 or 12 at the end; or a refusal. Then the job handed back, and the cycle,
 // if one is named, at the job's WP# level, and why it is sent.
+// kept: what may not change: the job stands beside each answer (`turn`, demands' Socket)
 #[derive(Clone, Copy)]
 pub struct LoadTurn {
     pub answer: u32,
@@ -59,7 +61,6 @@ fn waiting(part: u32, first: u32, count: u32, wp: bool, p: u32) -> Loading
 }
 
 // Begins a job to which no cells are lent: refusals 1, 10, 6, 7, 8, 9. A refused begin hands back the all-zero state.
-// kept: what may not change: a refused begin's state, which its clause and demands' theorems on a begin speak of
 #[tactic(auto, unfolding(crate::specs::Loading::begin_load), using(crate::proofs::InRange::begun))]
 pub fn begin_load(part: u32, first: u32, image: &[u16], wp: bool, p: u32) -> Begun
     ensures { result ≡ begin_load part first image.now wp p }

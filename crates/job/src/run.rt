@@ -22,6 +22,7 @@ pub struct Tally {
 }
 
 // The last cycle: kind 0 none, 1 read, 2 write.
+// kept: the C interface: it stands in the report
 #[repr(C)]
 #[derive(Clone, Copy, Default)]
 pub struct Last {
@@ -43,6 +44,7 @@ pub struct Held {
 }
 
 // What is held when a run ends, and the number with which the loader stopped: 0 while it goes on.
+// kept: no plainer: what is held is billed or told whatever the number is, so a Result would have it on both sides
 #[derive(Clone, Copy)]
 pub(crate) struct RunEnd {
     pub(crate) held: Held,
@@ -163,6 +165,7 @@ pub(crate) fn run(cells: &mut [u16], work: &Work, k: u64) -> RunEnd
     let mut seen = [0u16; 4096];
     let mut held = none_sent();
     let mut turn = work.next_sector(0);
+    // kept: no plainer: what is counted is told in the report, and a `for` would count beside it
     while held.sent < k {
         let Turn::Play(loader, purpose, cycle) = turn else {
             let answer = stop_number(turn);

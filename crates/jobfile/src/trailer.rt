@@ -7,6 +7,7 @@ use parts::Refusal;
 
 // What a job file asks: 0 or 13, and beside 0 the part, the WP# level, the first address, p,
 // and the image by its first byte in the file and its number of values.
+// kept: the C interface: it crosses C as it is
 #[repr(C)]
 #[derive(Clone, Copy, PartialEq, Eq, Debug, Default)]
 pub struct JobFile {

@@ -21,6 +21,7 @@ const ENDED_GAVE_UP: u32 = 4;
 pub(crate) const ENDED_DIFFERS: u32 = 5;
 
 // A driver as numbers.
+// kept: the C interface: the numbers of this file and of loading.rt cross C as they are
 #[repr(C)]
 #[derive(Clone, Copy)]
 pub struct DriverNumbers {

@@ -1,6 +1,7 @@
 // The numbers of document 01 by name: commands, stages of a write sequence, kinds of a last cycle, bits 7, 6 and 2, and the codes of suspend and resume. The refusals are an enum of their own.
 
 // ---- commands
+// kept: what may not change: numbers, as `start`, `command_writes` and `bus_cycle` take any and answer 14 or 5 to one above 3
 // program
 pub const PROGRAM: u32 = 0;
 // sector erase
@@ -11,6 +12,7 @@ pub const BLOCK: u32 = 2;
 pub const CHIP: u32 = 3;
 
 // ---- the seven stages of a write sequence
+// kept: what may not change: numbers, as `bus_cycle` takes any and answers 5 to one above 6
 // none begun
 pub const NONE_BEGUN: u32 = 0;
 // AAH at U1
@@ -27,6 +29,7 @@ pub const SECOND_AAH: u32 = 5;
 pub const SECOND_55H: u32 = 6;
 
 // ---- the last cycle that was sent
+// kept: the C interface: the numbers stand in structs that cross C
 // none
 pub const NO_CYCLE: u32 = 0;
 // a read

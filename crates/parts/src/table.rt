@@ -12,6 +12,7 @@ pub enum End {
 // Sector/block and Chip (times in µs), and the facts beside them: U1, U2 and how many addresses
 // their compared low bits tell apart, the sector's and the block's code, the protected end, and
 // whether an erase can be suspended.
+// kept: no plainer: a line stands as the table has it; as a row by name each part would be fourteen lines
 #[derive(Clone, Copy)]
 pub struct Line {
     pub columns: [u32; 7],

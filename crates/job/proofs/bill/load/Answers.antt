@@ -31,4 +31,4 @@ returns-in-Ok c = let g = c.args in
 
 pub returns-in-Err : goal.returns-in-Err
 returns-in-Err c = let g = c.args in let e = c.in-Err in
-    rw (c.refused_bill.ensures, c.number.ensures) (refuses-load g.part g.first g.image.now g.cells.now g.wp g.p e.refusal e.ensures.answer)
+    rw c.from.ensures (refuses-load g.part g.first g.image.now g.cells.now g.wp g.p e.refusal e.ensures.answer)

@@ -20,4 +20,4 @@ returns-in-Ok c = let g = c.args in
 
 pub returns-in-Err : goal.returns-in-Err
 returns-in-Err c = let g = c.args in let e = c.in-Err in
-    rw (c.refused_report.ensures, c.number.ensures) (refuses-report g.part g.first g.image.now g.cells.now g.wp g.p g.k e.refusal e.ensures.answer)
+    rw c.from.ensures (refuses-report g.part g.first g.image.now g.cells.now g.wp g.p g.k e.refusal e.ensures.answer)
