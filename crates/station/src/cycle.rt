@@ -1,37 +1,16 @@
 // The bus cycle: the device crosses as plain numbers, and any numbers may be given.
 ghost use Rattle.std.specs.Prelude.{◌≡◌};
-ghost use Rattle.device.specs.Device.{fresh_device, no_operation};
-ghost use Rattle.bus.specs.Cycle.{cycled_of, device_numbers, operation_numbers};
+ghost use Rattle.device.specs.Device.{fresh_device};
+ghost use Rattle.bus.specs.Cycle.{cycled_of, device_numbers};
 
-use bus::{DeviceNumbers, OperationNumbers, READ_MODE, ReplyNumbers};
+use bus::{DeviceNumbers, ReplyNumbers};
 use device::Action;
-use parts::names::NONE_BEGUN;
-
-// The numbers of no operation.
-fn no_operation() -> OperationNumbers
-    ensures { result ≡ operation_numbers no_operation }
-{
-    OperationNumbers {
-        kind: 0,
-        address: 0,
-        data: 0,
-        left: 0,
-        toggle: 0,
-    }
-}
 
 // A fresh device: read mode, no sequence begun, nothing running, nothing suspended, no completion 0 µs old.
 pub fn station_fresh() -> DeviceNumbers
     ensures { result ≡ device_numbers fresh_device }
 {
-    DeviceNumbers {
-        mode: READ_MODE,
-        stage: NONE_BEGUN,
-        recent: 0,
-        turned: 0,
-        running: no_operation(),
-        suspended: no_operation(),
-    }
+    DeviceNumbers::from(device::fresh())
 }
 
 // A read: refusals 1, 2, 5, 3.
