@@ -4,7 +4,7 @@ use mathlib.Core.Path.{refl, sym, ap, ap₂}
 use borrow.Author.Tests.{ltb-true}
 use lib.ListN.{get_or-eq_default}
 use Rattle.parts.specs.Pick.{pick}
-use Rattle.parts.specs.Refused.{answer_of, number_of}
+use Rattle.parts.specs.Refused.{answer_of}
 use Rattle.parts.specs.Table.{Found, no_line, lines, line_of, row_from, row_of, part_refusal, found_of, told_row}
 use Rattle.parts.specs.declared.refusal.Refusal.{Refusal}
 use Rattle.parts.specs.declared.table.Row.{Row}
