@@ -1,5 +1,6 @@
 // What the program station links beside the library station: the export of the library alone, a call of its function there under the
 // same clause. By itself in its archive, as nothing else there calls the model and the driver.
+// kept: the C interface: an exported function is a function of its own, and a static library is no library of another crate
 #![tactic(auto)]
 
 ghost use Rattle.std.specs.Prelude.{◌≡◌};

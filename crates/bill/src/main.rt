@@ -41,6 +41,7 @@ fn read_full<R: Read>(input: &mut R, buf: &mut [u8]) -> usize
 
 // A file whose end was not met, be it longer or a read that failed, counts as too long.
 fn main(rt: HostRuntime) -> io::Result<()> {
+    // kept: a rule of the project: no heap
     let mut file = [0u8; 20481];
     let mut input = rt.reader();
     let n = read_full(&mut input, &mut file);

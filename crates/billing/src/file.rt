@@ -14,6 +14,7 @@ fn bill_job(file: &[u8], asked: JobFile) -> Bill
     requires { asked.count ≤ 10240 }
     ensures { result ≡ bill_of_job file.now asked }
 {
+    // kept: a rule of the project: no heap
     let mut values = [0u16; 10240];
     let image = &mut values[..asked.count];
     jobfile::read_image(file, asked.start, image);

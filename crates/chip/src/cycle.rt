@@ -181,6 +181,7 @@ impl Part {
     }
 
     // What a read at rest shows with nothing suspended, once a completion is older than 0 µs.
+    // kept: no plainer: that the cell is lent is asked by this and four more; a struct of cells and address would be made for one read
     fn mode_shows(self, cells: &[u16], mode: Mode, a: u32) -> u16
         requires { a < length cells.now }
         ensures { result ≡ mode_shows self.row cells.now mode a }

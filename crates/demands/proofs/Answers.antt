@@ -18,7 +18,6 @@ use Rattle.driver.specs.declared.machine.Phase.TheVariants.{Writing, Polling, Co
 use Rattle.driver.specs.declared.machine.Driver.{Driver}
 use Rattle.driver.specs.declared.machine.Step.{Step}
 use Rattle.driver.specs.Refusals.{command_refusal}
-use Rattle.table.proofs.Told.{row-told}
 use Rattle.driver.specs.Writes.{no_write, write_count, writes_of, writes, command_writes, Kth, kth, kth_write}
 use Rattle.driver.specs.Machine.{start_of, step_of, phase_of, writing_of, polling_of, confirming_of, matches, most_polls, polls, ended, value_wanted, in_range, writing}
 use Rattle.driver.proofs.Places.{place_at}
@@ -73,7 +72,7 @@ pub answers : Answers
 unfolding figure_of kth_write command_writes start_of job_of Polled
 answers =
     record {
-      row-given = λ c z. row-told c.back (row_asked c).part c.promise.0 c.promise.1 ∙ ap (λ (n : ℕ). record { answer = n; row = row_of (row_asked c).part }) z;
+      row-given = λ c z. c.promise.1.1 ∙ ap (λ (n : ℕ). record { answer = n; row = row_of (row_asked c).part }) z;
       figure-given = λ c z. c.promise ∙ taken _ _ _ z;
       station-figure-given = λ c z. c.promise ∙ ap (λ (f : Figure). f.value) (taken _ _ _ z);
       writes-given = λ c z. c.promise ∙ taken _ _ _ z;

@@ -13,7 +13,6 @@ use Rattle.parts.specs.Width.{value_of}
 use Rattle.parts.specs.Table.{Found, no_line, lines, line_of, row_from, row_of, part_refusal, found_of}
 use Rattle.table.specs.Figures.{Figure, figure, figure_refusal, figure_of}
 use Rattle.parts.specs.declared.table.Row.{Row}
-use Rattle.table.proofs.Told.{row-told}
 use Rattle.parts.proofs.Every.{apart, split}
 use Rattle.device.specs.Cycle.{chip, Outcome, after_time, accepted_of, cycle_of}
 use Rattle.device.proofs.Cases.{acted-answers}
@@ -235,7 +234,7 @@ demand-1 =
       kth-write-refuses = λ c. let g = kth_asked c.given in rw c.promise (kth-refuses g.part g.command g.address g.word g.k);
       load-refuses = λ c. rw (c.promise.0, c.promise.1) (by-test (λ (l : Loaded). l.bill.answer) (refused_job (to_load c)) _ _ refl refl);
       load-first-refuses = λ c. rw (c.promise.0, c.promise.1) (by-test (λ (l : Reported). l.report.answer) (refused_job (to_load_first c).job) _ _ refl refl);
-      row-refuses = λ c. rw (row-told c.back (row_asked c).part c.promise.0 c.promise.1) (rows-refuse (row_asked c).part);
+      row-refuses = λ c. rw c.promise.1.1 (rows-refuse (row_asked c).part);
       figure-refuses = λ c. let g = figure_asked c.given in rw c.promise (figures-refuse g.part g.column);
       file-refuses = λ c. rw c.promise (files-refuse (to_read c).file);
       bill-file-refuses = λ c. rw c.promise (bills-refuse (to_bill c));

@@ -19,6 +19,7 @@ use Rattle.demands.specs.Unique.{Unique}
 pub unique : Unique
 unique =
     record {
+      number = parts.number-unique;
       value = parts.value-unique;
       blank = parts.blank-unique;
       fits = parts.fits-unique;

@@ -5,6 +5,8 @@ use Rattle.std.specs.Prelude.{ℕ, ◌≡◌, List}
 use contract.Lifetimes.{Lfts}
 use borrow.Fn.Kinds.{ParamKind, ResultKind, Out, Dens, ended_of, res_t}
 use denote.Triple.Clauses.{AtExit}
+use Rattle.parts.proofs.refusal.Refusal.number.Kinds as number-kinds
+use Rattle.parts.proofs.refusal.Refusal.number.Reads as number-reads
 use Rattle.parts.proofs.value.Kinds as value-kinds
 use Rattle.parts.proofs.value.Reads as value-reads
 use Rattle.parts.proofs.blank.Kinds as blank-kinds
@@ -147,6 +149,7 @@ OneOutcome n ps r Post held =
 
 pub record Unique : Type 0 where
   -- the part table
+  pub number : OneResult 0 number-kinds.ps number-kinds.r number-reads.Post
   pub value : OneResult 0 value-kinds.ps value-kinds.r value-reads.Post
   pub blank : OneResult 0 blank-kinds.ps blank-kinds.r blank-reads.Post
   pub fits : OneResult 0 fits-kinds.ps fits-kinds.r fits-reads.Post

@@ -10,7 +10,7 @@ use parts::names::{BLOCK, PROGRAM, SECTOR};
 use parts::{Refusal, Row};
 
 // One command's writes: how many they are, and the writes, unused places zero.
-// kept: a rule of the project (no heap): four or six writes in a fixed number of places
+// kept: a rule of the project: document 01 names this form, six writes in an array with their count, and there is no heap
 #[derive(Clone, Copy)]
 pub struct Writes {
     pub count: u32,

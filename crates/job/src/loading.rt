@@ -86,6 +86,7 @@ fn is_ending(n: u32) -> bool
 }
 
 // Whether two drivers ask for the same.
+// kept: no plainer: five of seven fields, which no derived `==` compares
 #[tactic(auto, unfolding(crate::specs::Loading::same_asked), using(parts::proofs::Rules::tests))]
 fn same_asked(d: Driver, e: Driver) -> bool
     ensures { result ≡ same_asked d e }
@@ -219,6 +220,7 @@ impl Loading {
     }
 
     // Given the value last read, names the next cycle or the end: 5 for a state out of range.
+    // kept: the C interface: the values seen are lent by C, which knows no other length
     #[tactic(auto, unfolding(crate::specs::Loading::load_turn_of, crate::specs::Loading::loading_in_range), using(crate::proofs::InRange::fits))]
     pub fn turn(self, image: &[u16], seen: &mut [u16; 4096], read: u16) -> LoadTurn
         ensures { (result ≡ (load_turn_of self image.now seen.old read).turn) × (seen.new ≡ (load_turn_of self image.now seen.old read).seen) }

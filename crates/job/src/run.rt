@@ -162,6 +162,7 @@ pub(crate) fn run(cells: &mut [u16], work: &Work, k: u64) -> RunEnd
     requires { k ≤ MOST-CYCLES }
     ensures { (result ≡ run_end (run_from work.now.job work.now.image.now cells.old k).held (stop_from work.now.job work.now.image.now cells.old k)) × (cells.new ≡ (run_from work.now.job work.now.image.now cells.old k).cells) }
 {
+    // kept: a rule of the project: no heap
     let mut seen = [0u16; 4096];
     let mut held = none_sent();
     let mut turn = work.next_sector(0);

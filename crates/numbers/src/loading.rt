@@ -186,6 +186,7 @@ impl From<LoadingNumbers> for Loading {
 }
 
 // The numbers of a begin.
+// kept: what may not change: a public function, of which demands' `Unique` speaks
 pub fn begin_numbers(b: Begun) -> BeginNumbers
     ensures { result ≡ begin_numbers b }
 {

@@ -168,6 +168,7 @@ impl From<Option<(u32, Action)>> for CycleNumbers {
 }
 
 // The numbers of a start.
+// kept: what may not change: a public function, of which demands' `Unique` speaks
 pub fn start_numbers(s: Started) -> StartNumbers
     ensures { result ≡ start_numbers s }
 {

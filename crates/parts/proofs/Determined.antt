@@ -1,6 +1,8 @@
 -- Each exported function's promise determines its result: any two results that it allows are equal. Stated on the promise that is made from the source.
 use mathlib.Core.Path.{sym, ◌∙◌}
 use Rattle.parts.proofs.Unique.{Unique}
+use Rattle.parts.proofs.refusal.Refusal.number.Kinds as number-kinds
+use Rattle.parts.proofs.refusal.Refusal.number.Reads as number-reads
 use Rattle.parts.proofs.width.value.Kinds as value-kinds
 use Rattle.parts.proofs.width.value.Reads as value-reads
 use Rattle.parts.proofs.width.blank.Kinds as blank-kinds
@@ -27,6 +29,9 @@ use Rattle.parts.proofs.time.is_interval.Kinds as is-interval-kinds
 use Rattle.parts.proofs.time.is_interval.Reads as is-interval-reads
 use Rattle.parts.proofs.time.rounded_up.Kinds as rounded-up-kinds
 use Rattle.parts.proofs.time.rounded_up.Reads as rounded-up-reads
+
+pub number-unique : Unique number-kinds.ps number-kinds.r number-reads.Post
+number-unique κs a x y s t p q = p ∙ sym q
 
 pub value-unique : Unique value-kinds.ps value-kinds.r value-reads.Post
 value-unique κs a x y s t p q = p ∙ sym q

@@ -12,7 +12,7 @@ use Rattle.table.proofs.figure.part_figure.Kinds as part-figure-kinds
 use Rattle.table.proofs.figure.part_figure.Reads as part-figure-reads
 
 pub part-row-unique : Unique part-row-kinds.ps part-row-kinds.r part-row-reads.Post
-part-row-unique κs a x y s t p q = told-unique x y _ _ p.0 p.1 q.0 q.1
+part-row-unique κs a x y s t p q = told-unique x y _ _ p.0 p.1.0 q.0 q.1.0
 
 -- what is told of a figure is told of no other result
 told_figure-injective : (r s : Result ℕ Refusal) → told_figure r ≡ told_figure s → r ≡ s

@@ -1,7 +1,7 @@
 // The part table of document 01, a line a part.
 ghost use Rattle.std.specs.Prelude.{◌≡◌, ◌≤◌, IfOk};
 ghost use Rattle.parts.specs.Refused.{answer_of};
-ghost use Rattle.parts.specs.Table.{line_of, part_refusal, row_from, row_of};
+ghost use Rattle.parts.specs.Table.{found_of, line_of, part_refusal, row_from, row_of, told_row};
 
 use parts::{End, Line, Refusal, Row};
 
@@ -122,10 +122,11 @@ fn named(line: Line) -> Row
 }
 
 // The row of a part: 1 for a part above 10.
-#[tactic(auto, unfolding(parts::specs::Table::row_of, parts::specs::Table::part_refusal))]
+#[tactic(auto, unfolding(parts::specs::Table::row_of, parts::specs::Table::part_refusal), using(crate::proofs::Told::past))]
 pub fn part_row(part: u32) -> Result<Row, Refusal>
     ensures answer { answer_of result ≡ part_refusal part }
     ensures row { IfOk result (λ r. r ≡ row_of part) }
+    ensures told { told_row result ≡ found_of part }
 {
     if 10 < part {
         return Err(Refusal::NoPart);
