@@ -1,19 +1,30 @@
-use Rattle.std.proofs.Common.{None, sym, refl, ◌∙◌, ap, rules, option_map, ◌≡◌}
-use Rattle.std.proofs.lemmas.Slice.Zip.{either_empty_from_Zip}
-use Rattle.values.specs.Search.{rise_in}
-use Rattle.values.proofs.Turns.{rest-hit, rest-miss, rest-none}
+use Rattle.std.proofs.Common.{sym, ◌∙◌, rules}
+use Rattle.values.proofs.Turns.{bit-hit, bit-miss-old, bit-miss-new, bit-none, rest-hit, rest-miss, rest-none}
 use Rattle.values.proofs.search.first_rise.Goals as goal
+use Rattle.values.proofs.search.first_rise.Goals.{else-o-eq0-via-then-o-eq0+else-n-eq1, else-o-eq0-via-else-o-eq0}
 
-pub returns-in-Some-lowest_rise : goal.returns-in-Some-lowest_rise
-returns-in-Some-lowest_rise c = let h = c.in-Some.ensures.steps in
-    let hit = rest-hit _ _ _ _ _ _ _ _ h.0.0 h.0.1 _ (c.in-Some-lowest_rise.ensures c.loop-i.i-iterator.count) in
-    cc (c.loop-i.invariant.rest, hit, h.1)
+pub loop-bit-preserved : goal.loop-bit-preserved
+loop-bit-preserved c = let v = c.loop-bit.invariant in (
+  v.0,
+  (
+    search rules,
+    elim c.else-o-eq0.branch [
+      | else-o-eq0-via-then-o-eq0+else-n-eq1 w ↦ v.1.1 ∙ bit-miss-new _ _ _ _ _ (search rules) w.if-o-eq0.true w.if-n-eq1.false
+      | else-o-eq0-via-else-o-eq0 w ↦ v.1.1 ∙ bit-miss-old _ _ _ _ _ (search rules) w.if-o-eq0.false
+    ],
+  ),
+)
 
-pub loop-i-preserved : goal.loop-i-preserved
-loop-i-preserved c = let h = c.in-Some.ensures.steps in
-    let none : rise_in c.loop-i.i-iterator.count c.args.width 0 _ _ ≡ None = c.lowest_rise.ensures _ ∙ ap (option_map _) c.in_default.is in
-    let miss = rest-miss _ _ _ _ _ _ _ _ h.0.0 h.0.1 none in
-    record { can = search rules; finite = search rules; rest = cc (c.loop-i.invariant.rest, miss, h.2) }
+pub cells-preserved : goal.cells-preserved
+cells-preserved c = let l = c.loop-bit in let k = c.cells in (
+  l.invariant.0,
+  (search rules, k.invariant.1.1 ∙ rest-miss _ _ _ k.i (search rules) (search rules) (l.invariant.1.1 ∙ bit-none _ _ _ _ _ (search rules))),
+)
 
-pub returns : goal.returns
-returns c = sym (c.loop-i.invariant.rest ∙ rest-none _ _ _ _ (either_empty_from_Zip _ c.next.new.self.iter None refl c.in-None.ensures.steps.0))
+pub returns-after-cells : goal.returns-after-cells
+returns-after-cells c = let k = c.cells in k.invariant.0 ∙ sym (k.invariant.1.1 ∙ rest-none _ _ _ k.i (search rules))
+
+pub returns-then-n-eq1 : goal.returns-then-n-eq1
+returns-then-n-eq1 c = let l = c.loop-bit in
+    let k = c.cells in
+    sym (k.invariant.1.1 ∙ rest-hit _ _ _ k.i _ (search rules) (search rules) (l.invariant.1.1 ∙ bit-hit _ _ _ _ _ (search rules) c.if-o-eq0.true c.if-n-eq1.true))
