@@ -1,5 +1,5 @@
 -- The search for a rising bit, in a cell and over the cells; and by the library's words the values at the front, those that fit, and the sum.
-use Rattle.std.proofs.Common.{◌≡◌, ℕ, suc, ◌+◌, ◌-◌, ◌/◌, ◌%◌, ◌<◌, ◌≤◌, min, Bool, true, false, cond, ◌&&◌, eqb, leb, Some, None, List, [], ◌∷◌, length, get_or, drop, fold, refl, ◌∙◌, add-one, arith, drop_of_length-le, drop-cons, eq-eqb, ne_eqb, leb-false, leb-true}
+use Rattle.std.proofs.Common.{◌≡◌, ◌⊎◌, inl, inr, ℕ, suc, ◌+◌, ◌-◌, ◌/◌, ◌%◌, ◌<◌, ◌≤◌, Bool, true, false, cond, ◌&&◌, eqb, Some, None, List, [], ◌∷◌, fold, refl, ◌∙◌, arith, eq-eqb, ne_eqb}
 use Rattle.std.specs.List.{prefix_len, list_all}
 use Rattle.parts.specs.Pick.{pick}
 use Rattle.parts.specs.Width.{value_of, fits_in}
@@ -29,27 +29,21 @@ unfolding rise_in
 bit-none i w b o n h = let z : w - b ≡ 0 = omega arith in rw z
 
 -- ---- the cells, from the i-th on
-none-new : (w i : ℕ) (os : List ℕ) → rise_from w i os [] ≡ None
+module _ (w i o n : ℕ) (os ns olds news : List ℕ) (head-old : os ≡ o ∷ olds) (head-new : ns ≡ n ∷ news) where
+  pub rest-hit : (b : ℕ) → rise_in i w 0 o n ≡ Some (i, b) → rise_from w i os ns ≡ Some (i, b)
+  unfolding rise_from
+  rest-hit b e = rw (head-old, head-new) (rw e)
+
+  pub rest-miss : rise_in i w 0 o n ≡ None → rise_from w i os ns ≡ rise_from w (i + 1) olds news
+  unfolding rise_from
+  rest-miss e = rw (head-old, head-new) (rw e)
+
+pub rest-none : (w i : ℕ) (os ns : List ℕ) → (os ≡ []) ⊎ (ns ≡ []) → rise_from w i os ns ≡ None
 unfolding rise_from
-none-new w i [] = refl
-none-new w i (o ∷ os) = refl
-
-module _ (w : ℕ) (os ns : List ℕ) (i : ℕ) where
-  pub rest-hit : (b : ℕ) → i < length os → i < length ns → rise_in i w 0 (get_or os i 0) (get_or ns i 0) ≡ Some (i, b) → rise_from w i (drop i os) (drop i ns) ≡ Some (i, b)
-  unfolding rise_from
-  rest-hit b ho hn e = rw (drop-cons os i 0 ho, drop-cons ns i 0 hn) (simp e)
-
-  pub rest-miss : i < length os → i < length ns → rise_in i w 0 (get_or os i 0) (get_or ns i 0) ≡ None → rise_from w i (drop i os) (drop i ns) ≡ rise_from w (i + 1) (drop (i + 1) os) (drop (i + 1) ns)
-  unfolding rise_from
-  rest-miss ho hn e = rw (drop-cons os i 0 ho, drop-cons ns i 0 hn) (simp (e, add-one))
-
-  pub rest-none : min (length os) (length ns) ≤ i → rise_from w i (drop i os) (drop i ns) ≡ None
-  unfolding rise_from
-  rest-none h = by (leb (length os) i) refl
-    where
-      by : (b : Bool) → leb (length os) i ≡ b → rise_from w i (drop i os) (drop i ns) ≡ None
-      by true e = rw (drop_of_length-le os (leb-true _ _ e))
-      by false e = let l : i < length os = leb-false _ _ e in let m : length ns ≤ i = omega arith in rw (drop_of_length-le ns m) (none-new w i (drop i os))
+rest-none w i [] ns e = refl
+rest-none w i (o ∷ os) [] e = refl
+rest-none w i (o ∷ os) (n ∷ ns) (inl e) = cc
+rest-none w i (o ∷ os) (n ∷ ns) (inr e) = cc
 
 -- ---- values at the front, values that fit, and their sum
 pub prefix-leading : (v : ℕ) (xs : List ℕ) → prefix_len (λ x. eqb x v) xs ≡ leading_of v xs

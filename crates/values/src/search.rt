@@ -13,22 +13,17 @@ pub enum Decision {
 fn first_rise(old: &[u16], new: &[u16], width: u32) -> Option<(usize, u32)>
     ensures { result ≡ rise_from width 0 old.now new.now }
 {
-    let both = old.len().min(new.len());
     let mut found = None;
-    let mut i = 0;
-    'cells: while i < both {
-        let (mut o, mut n) = (old[i], new[i]);
-        let mut bit = 0;
-        while bit < width {
+    'cells: for (i, (&o, &n)) in old.iter().zip(new).enumerate() {
+        let (mut o, mut n) = (o, n);
+        for bit in 0..width {
             if o % 2 == 0 && n % 2 == 1 {
                 found = Some((i, bit));
                 break 'cells;
             }
             o /= 2;
             n /= 2;
-            bit += 1;
         }
-        i += 1;
     }
     found
 }

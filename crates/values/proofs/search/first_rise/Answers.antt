@@ -1,30 +1,28 @@
-use Rattle.std.proofs.Common.{sym, ◌∙◌, rules}
+use Rattle.std.proofs.Common.{None, sym, refl, ◌∙◌, rules}
+use Rattle.std.proofs.lemmas.Slice.Zip.{either_empty_from_Zip}
 use Rattle.values.proofs.Turns.{bit-hit, bit-miss-old, bit-miss-new, bit-none, rest-hit, rest-miss, rest-none}
 use Rattle.values.proofs.search.first_rise.Goals as goal
 use Rattle.values.proofs.search.first_rise.Goals.{else-o-eq0-via-then-o-eq0+else-n-eq1, else-o-eq0-via-else-o-eq0}
 
 pub loop-bit-preserved : goal.loop-bit-preserved
-loop-bit-preserved c = let v = c.loop-bit.invariant in (
-  v.0,
-  (
-    search rules,
-    elim c.else-o-eq0.branch [
-      | else-o-eq0-via-then-o-eq0+else-n-eq1 w ↦ v.1.1 ∙ bit-miss-new _ _ _ _ _ (search rules) w.if-o-eq0.true w.if-n-eq1.false
-      | else-o-eq0-via-else-o-eq0 w ↦ v.1.1 ∙ bit-miss-old _ _ _ _ _ (search rules) w.if-o-eq0.false
-    ],
-  ),
-)
+loop-bit-preserved c = let l = c.loop-bit in record {
+  none = l.invariant.none;
+  rest = elim c.else-o-eq0.branch [
+    | else-o-eq0-via-then-o-eq0+else-n-eq1 w ↦ l.invariant.rest ∙ bit-miss-new _ _ _ _ _ c.loop-bit-test.true w.if-o-eq0.true w.if-n-eq1.false
+    | else-o-eq0-via-else-o-eq0 w ↦ l.invariant.rest ∙ bit-miss-old _ _ _ _ _ c.loop-bit-test.true w.if-o-eq0.false
+  ];
+}
 
 pub cells-preserved : goal.cells-preserved
-cells-preserved c = let l = c.loop-bit in let k = c.cells in (
-  l.invariant.0,
-  (search rules, k.invariant.1.1 ∙ rest-miss _ _ _ k.i (search rules) (search rules) (l.invariant.1.1 ∙ bit-none _ _ _ _ _ (search rules))),
-)
+cells-preserved c = let h = c.in-Some.ensures.steps in
+    let miss = rest-miss _ c.in-Some.i _ _ _ _ _ _ h.0.0 h.0.1 (c.loop-bit.invariant.rest ∙ bit-none _ _ _ _ _ c.loop-bit-test.false) in
+    record { none = c.loop-bit.invariant.none; can = search rules; finite = search rules; rest = cc (c.cells.invariant.rest, miss, h.1, h.2) }
 
-pub returns-after-cells : goal.returns-after-cells
-returns-after-cells c = let k = c.cells in k.invariant.0 ∙ sym (k.invariant.1.1 ∙ rest-none _ _ _ k.i (search rules))
+pub returns-in-None : goal.returns-in-None
+returns-in-None c = c.cells.invariant.none ∙ sym (c.cells.invariant.rest ∙ rest-none _ _ _ _ (either_empty_from_Zip _ c.next.new.self.iter None refl c.in-None.ensures.steps.0))
 
 pub returns-then-n-eq1 : goal.returns-then-n-eq1
-returns-then-n-eq1 c = let l = c.loop-bit in
-    let k = c.cells in
-    sym (k.invariant.1.1 ∙ rest-hit _ _ _ k.i _ (search rules) (search rules) (l.invariant.1.1 ∙ bit-hit _ _ _ _ _ (search rules) c.if-o-eq0.true c.if-n-eq1.true))
+returns-then-n-eq1 c = let h = c.in-Some.ensures.steps in
+    let l = c.loop-bit in
+    let hit = rest-hit _ c.in-Some.i _ _ _ _ _ _ h.0.0 h.0.1 _ (l.invariant.rest ∙ bit-hit _ _ _ _ _ c.loop-bit-test.true c.if-o-eq0.true c.if-n-eq1.true) in
+    cc (c.cells.invariant.rest, hit, h.1)
