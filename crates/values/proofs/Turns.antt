@@ -28,6 +28,8 @@ pub bit-none : (i w b o n : ℕ) → w ≤ b → rise_in i (w - b) b o n ≡ Non
 unfolding rise_in
 bit-none i w b o n h = let z : w - b ≡ 0 = omega arith in rw z
 
+pub ruleset bit_misses = (bit-miss-old, bit-miss-new)
+
 -- ---- the cells, from the i-th on
 module _ (w i o n : ℕ) (os ns olds news : List ℕ) (head-old : os ≡ o ∷ olds) (head-new : ns ≡ n ∷ news) where
   pub rest-hit : (b : ℕ) → rise_in i w 0 o n ≡ Some (i, b) → rise_from w i os ns ≡ Some (i, b)

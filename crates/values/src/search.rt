@@ -10,6 +10,7 @@ pub enum Decision {
 }
 
 // Where a value of old has a 0 among its low bits and that of new a 1, by the cell and its lowest such bit: the search ends at the first one found, or with the shorter slice.
+#[tactic(auto, using(crate::proofs::Turns::bit_misses))]
 fn first_rise(old: &[u16], new: &[u16], width: u32) -> Option<(usize, u32)>
     ensures { result ≡ rise_from width 0 old.now new.now }
 {

@@ -1,17 +1,7 @@
 use Rattle.std.proofs.Common.{None, sym, refl, ◌∙◌, rules}
 use Rattle.std.proofs.lemmas.Slice.Zip.{either_empty_from_Zip}
-use Rattle.values.proofs.Turns.{bit-hit, bit-miss-old, bit-miss-new, bit-none, rest-hit, rest-miss, rest-none}
+use Rattle.values.proofs.Turns.{bit-hit, bit-none, rest-hit, rest-miss, rest-none}
 use Rattle.values.proofs.search.first_rise.Goals as goal
-use Rattle.values.proofs.search.first_rise.Goals.{else-o-eq0-via-then-o-eq0+else-n-eq1, else-o-eq0-via-else-o-eq0}
-
-pub loop-bit-preserved : goal.loop-bit-preserved
-loop-bit-preserved c = let l = c.loop-bit in record {
-  none = l.invariant.none;
-  rest = elim c.else-o-eq0.branch [
-    | else-o-eq0-via-then-o-eq0+else-n-eq1 w ↦ l.invariant.rest ∙ bit-miss-new _ _ _ _ _ c.loop-bit-test.true w.if-o-eq0.true w.if-n-eq1.false
-    | else-o-eq0-via-else-o-eq0 w ↦ l.invariant.rest ∙ bit-miss-old _ _ _ _ _ c.loop-bit-test.true w.if-o-eq0.false
-  ];
-}
 
 pub cells-preserved : goal.cells-preserved
 cells-preserved c = let h = c.in-Some.ensures.steps in
