@@ -1,6 +1,6 @@
 // The search for a bit that must rise, over cells and their bits, and the decision of a sector.
-ghost use Rattle.std.specs.Prelude.{◌≡◌, ℕ, option_map};
-ghost use Rattle.values.specs.Search.{decision_of, leading_of, rise_from, rise_in};
+ghost use Rattle.std.specs.Prelude.{◌≡◌};
+ghost use Rattle.values.specs.Search.{decision_of, leading_of, rise_from};
 
 // What a sector asks for: clearing bits suffices, or its erase.
 #[derive(Clone, Copy, PartialEq, Eq, Debug)]
@@ -9,25 +9,24 @@ pub enum Decision {
     SectorErase,
 }
 
-// The lowest of a cell's low bits that is 0 in the old value and 1 in the new.
-#[tactic(auto, using(crate::proofs::Turns::lowest))]
-fn lowest_rise(old: u16, new: u16, width: u32) -> Option<u32>
-    ensures { (i : ℕ) → rise_in i width 0 old new ≡ option_map (λ b. (i, b)) result }
-{
-    let bit = (!old & new).trailing_zeros();
-    (bit < width.min(u16::BITS)).then_some(bit)
-}
-
 // Where a value of old has a 0 among its low bits and that of new a 1, by the cell and its lowest such bit: the search ends at the first one found, or with the shorter slice.
+#[tactic(auto, using(crate::proofs::Turns::bit_misses))]
 fn first_rise(old: &[u16], new: &[u16], width: u32) -> Option<(usize, u32)>
     ensures { result ≡ rise_from width 0 old.now new.now }
 {
-    for (i, (&o, &n)) in old.iter().zip(new).enumerate() {
-        if let Some(bit) = lowest_rise(o, n, width) {
-            return Some((i, bit));
+    let mut found = None;
+    'cells: for (i, (&o, &n)) in old.iter().zip(new).enumerate() {
+        let (mut o, mut n) = (o, n);
+        for bit in 0..width {
+            if o % 2 == 0 && n % 2 == 1 {
+                found = Some((i, bit));
+                break 'cells;
+            }
+            o /= 2;
+            n /= 2;
         }
     }
-    None
+    found
 }
 
 // The decision of a sector, from the values read and the image's.

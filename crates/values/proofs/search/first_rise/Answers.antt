@@ -1,19 +1,18 @@
-use Rattle.std.proofs.Common.{None, sym, refl, ◌∙◌, ap, rules, option_map, ◌≡◌}
+use Rattle.std.proofs.Common.{None, sym, refl, ◌∙◌, rules}
 use Rattle.std.proofs.lemmas.Slice.Zip.{either_empty_from_Zip}
-use Rattle.values.specs.Search.{rise_in}
-use Rattle.values.proofs.Turns.{rest-hit, rest-miss, rest-none}
+use Rattle.values.proofs.Turns.{bit-hit, bit-none, rest-hit, rest-miss, rest-none}
 use Rattle.values.proofs.search.first_rise.Goals as goal
 
-pub returns-in-Some-lowest_rise : goal.returns-in-Some-lowest_rise
-returns-in-Some-lowest_rise c = let h = c.in-Some.ensures.steps in
-    let hit = rest-hit _ _ _ _ _ _ _ _ h.0.0 h.0.1 _ (c.in-Some-lowest_rise.ensures c.loop-i.i-iterator.count) in
-    cc (c.loop-i.invariant.rest, hit, h.1)
+pub cells-preserved : goal.cells-preserved
+cells-preserved c = let h = c.in-Some.ensures.steps in
+    let miss = rest-miss _ c.in-Some.i _ _ _ _ _ _ h.0.0 h.0.1 (c.loop-bit.invariant.rest ∙ bit-none _ _ _ _ _ c.loop-bit-test.false) in
+    record { none = c.loop-bit.invariant.none; can = search rules; finite = search rules; rest = cc (c.cells.invariant.rest, miss, h.1, h.2) }
 
-pub loop-i-preserved : goal.loop-i-preserved
-loop-i-preserved c = let h = c.in-Some.ensures.steps in
-    let none : rise_in c.loop-i.i-iterator.count c.args.width 0 _ _ ≡ None = c.lowest_rise.ensures _ ∙ ap (option_map _) c.in_default.is in
-    let miss = rest-miss _ _ _ _ _ _ _ _ h.0.0 h.0.1 none in
-    record { can = search rules; finite = search rules; rest = cc (c.loop-i.invariant.rest, miss, h.2) }
+pub returns-in-None : goal.returns-in-None
+returns-in-None c = c.cells.invariant.none ∙ sym (c.cells.invariant.rest ∙ rest-none _ _ _ _ (either_empty_from_Zip _ c.next.new.self.iter None refl c.in-None.ensures.steps.0))
 
-pub returns : goal.returns
-returns c = sym (c.loop-i.invariant.rest ∙ rest-none _ _ _ _ (either_empty_from_Zip _ c.next.new.self.iter None refl c.in-None.ensures.steps.0))
+pub returns-then-n-eq1 : goal.returns-then-n-eq1
+returns-then-n-eq1 c = let h = c.in-Some.ensures.steps in
+    let l = c.loop-bit in
+    let hit = rest-hit _ c.in-Some.i _ _ _ _ _ _ h.0.0 h.0.1 _ (l.invariant.rest ∙ bit-hit _ _ _ _ _ c.loop-bit-test.true c.if-o-eq0.true c.if-n-eq1.true) in
+    cc (c.cells.invariant.rest, hit, h.1)
