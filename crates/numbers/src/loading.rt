@@ -1,6 +1,6 @@
 // The loader for a real socket as plain numbers: its job, its begin and its turn. Any numbers may be given.
 ghost use Rattle.std.specs.Prelude.{◌≡◌};
-ghost use Rattle.numbers.specs.Loading.{begin_numbers, loading_numbers, loading_of, no_turn, progress_at, sending_level, sending_numbers, stage_at, task_at, task_number, told_turn, turn_numbers, turned_of};
+ghost use Rattle.numbers.specs.Loading.{begin_numbers, loading_at, loading_numbers, loading_of, no_driver_numbers, no_turn, progress_at, sending_level, sending_numbers, stage_at, stage_numbers, task_at, task_number, told_turn, turn_numbers, turned_of};
 
 use crate::machine::{CycleNumbers, DriverNumbers, ENDED_DIFFERS, NOTHING_TO_SEND, sent_numbers};
 use device::Cycle;
@@ -92,50 +92,62 @@ fn task_at(n: u32) -> Task
     }
 }
 
+// The numbers of a job that has named nothing yet.
+fn waiting_numbers(g: Loading) -> LoadingNumbers
+    ensures { result ≡ loading_at g WAITING 0 0 no_driver_numbers 0 }
+{
+    LoadingNumbers {
+        part: g.part,
+        first: g.first,
+        count: g.count,
+        wp: u32::from(g.wp),
+        p: g.p,
+        progress: WAITING,
+        base: 0,
+        at: 0,
+        driver: NO_DRIVER,
+        ending: 0,
+    }
+}
+
+// The numbers of a job in a sector.
+fn sector_numbers(g: Loading, loader: Loader) -> LoadingNumbers
+    ensures { result ≡ stage_numbers g loader.stage loader.base loader.at }
+{
+    let within = LoadingNumbers {
+        base: loader.base,
+        at: loader.at,
+        ..waiting_numbers(g)
+    };
+    match loader.stage {
+        Stage::Scanning => LoadingNumbers {
+            progress: SCANNING,
+            ..within
+        },
+        Stage::Looking => LoadingNumbers {
+            progress: LOOKING,
+            ..within
+        },
+        Stage::Driving(task, d) => LoadingNumbers {
+            progress: task_number(task),
+            driver: DriverNumbers::from(d),
+            ..within
+        },
+    }
+}
+
 // The numbers of a job under way.
 impl From<Loading> for LoadingNumbers {
     ghost from_gives = { λ g n. n ≡ loading_numbers g };
 
     fn from(g: Loading) -> LoadingNumbers {
-        let waiting = LoadingNumbers {
-            part: g.part,
-            first: g.first,
-            count: g.count,
-            wp: u32::from(g.wp),
-            p: g.p,
-            progress: WAITING,
-            base: 0,
-            at: 0,
-            driver: NO_DRIVER,
-            ending: 0,
-        };
         match g.progress {
-            Progress::Waiting => waiting,
-            Progress::Within(Loader { stage, base, at }) => match stage {
-                Stage::Scanning => LoadingNumbers {
-                    progress: SCANNING,
-                    base,
-                    at,
-                    ..waiting
-                },
-                Stage::Looking => LoadingNumbers {
-                    progress: LOOKING,
-                    base,
-                    at,
-                    ..waiting
-                },
-                Stage::Driving(task, d) => LoadingNumbers {
-                    progress: task_number(task),
-                    base,
-                    at,
-                    driver: DriverNumbers::from(d),
-                    ..waiting
-                },
-            },
+            Progress::Waiting => waiting_numbers(g),
+            Progress::Within(loader) => sector_numbers(g, loader),
             Progress::Over(ending) => LoadingNumbers {
                 progress: OVER,
                 ending,
-                ..waiting
+                ..waiting_numbers(g)
             },
         }
     }
