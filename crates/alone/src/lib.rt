@@ -9,6 +9,7 @@ ghost use Rattle.job.specs.Bill.{load_of};
 use job::Bill;
 
 // What station_load does.
+// kept: the C interface: it is linked from an archive by itself (docs/DECISIONS.md, C12)
 pub fn station_load_alone(
     part: u32,
     cells: &mut [u16],

@@ -9,6 +9,7 @@ use std::io;
 use std::io::Read;
 
 // The bill in whole, µs, µs, then counts, last the answer; of a refusal the answer alone.
+// kept: no plainer: a Display of a type of its own would print these lines, and be printed in one place
 fn print(rt: &impl Print, b: Bill) -> io::Result<()> {
     if b.answer == 0 {
         println!(rt; "saved {}", b.saved)?;
@@ -28,7 +29,7 @@ fn read_full<R: Read>(input: &mut R, buf: &mut [u8]) -> usize
     ensures { result ≤ length buf.new }
 {
     let mut done = 0;
-    // kept: no plainer: std's read_exact does not say how many bytes came, and its read_to_end fills the heap
+    // kept: no plainer: std's read_exact does not say how many bytes came, its read_to_end fills the heap, and bytes() would be counted too
     while done < buf.len() {
         let n = input.read(&mut buf[done..]).unwrap_or(0);
         if n == 0 {

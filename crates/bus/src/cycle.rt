@@ -48,7 +48,7 @@ pub struct ReplyNumbers {
 }
 
 // The number of a mode.
-// kept: no plainer: Mode and u32 are both of other crates, so no impl of From may stand here, either way
+// kept: the C interface: the number by which C knows a mode stands by name, and not by the order of another crate's enum
 fn mode_number(mode: Mode) -> u32
     ensures { result ≡ mode_number mode }
 {
@@ -69,6 +69,7 @@ fn mode_at(n: u32) -> Mode
 }
 
 // A device out of range for every part.
+// kept: what may not change: numbers that are no device's are refused with 5 after 1 and 2 (demands' `station-no-device`), so no TryFrom
 fn no_state() -> Device
     ensures { result ≡ no_state }
 {

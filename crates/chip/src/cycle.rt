@@ -121,8 +121,8 @@ impl Part {
         }
     }
 
-    // Whether bit 2 tells of an erase at an address: in its range, on the parts that can suspend one. The range is not made: each poll of
-    // an erase asks this.
+    // Whether bit 2 tells of an erase at an address: in its range, on the parts that can suspend one. Each poll of an erase asks
+    // this.
     #[tactic(auto, unfolding(device::specs::Cycle::tells, device::specs::Operation::cells_of, parts::specs::Span::holdsb))]
     fn tells_of(self, o: Operation, a: u32) -> bool
         ensures { result ≡ tells self.row o a }

@@ -54,7 +54,7 @@ pub(crate) fn complete(cells: &mut [u16], part: Part, o: Operation)
 }
 
 // The operation is cut short.
-// kept: no plainer: one function for this and `complete`, over a closure, would ask for the kind at every cell
+// kept: no plainer: what this and `complete` share is three lines, and a function that lends the range back owes a clause on the loan
 #[tactic(auto, unfolding(device::specs::Operation::cut_on), using(crate::proofs::Rules::cut))]
 pub(crate) fn cut_short(cells: &mut [u16], row: Row, o: Operation, scar: u16)
     requires { (cells_of row o).first + (cells_of row o).count ≤ length cells.old }

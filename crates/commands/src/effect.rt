@@ -2,7 +2,7 @@
 ghost use Rattle.std.specs.Prelude.{◌≡◌, ◌==◌, ◌%◌, false};
 ghost use Rattle.parts.specs.Names.{FIRST-55H, SECOND-55H};
 ghost use Rattle.parts.specs.Pick.{pick};
-ghost use Rattle.commands.specs.Commands.{block_erase, broken, effect_of};
+ghost use Rattle.commands.specs.Commands.{block_erase, effect_of};
 
 use parts::Row;
 use parts::names::{
@@ -19,7 +19,7 @@ pub enum Mode {
 }
 
 // What follows: the sequence goes on to a stage, a command's operation starts, or a mode is entered.
-// kept: what may not change: stage and command are the numbers of a device, of which `bus_cycle` takes any
+// kept: what may not change: a stage and a command go as numbers into a device, of which `bus_cycle` takes any
 #[derive(Clone, Copy, PartialEq, Eq, Debug)]
 pub enum Effect {
     Goes(u32),

@@ -53,6 +53,7 @@ unique =
       kth-write = driver.kth-write-unique;
       load = job.load-unique;
       load-first = job.load-first-unique;
+      is-ending = job.is-ending-unique;
       begin-load = job.begin-load-unique;
       turn = job.turn-unique;
       start-numbers = numbers.start-numbers-unique;

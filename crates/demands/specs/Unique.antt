@@ -75,6 +75,8 @@ use Rattle.job.proofs.load.Kinds as load-kinds
 use Rattle.job.proofs.load.Reads as load-reads
 use Rattle.job.proofs.load_first.Kinds as load-first-kinds
 use Rattle.job.proofs.load_first.Reads as load-first-reads
+use Rattle.job.proofs.is_ending.Kinds as is-ending-kinds
+use Rattle.job.proofs.is_ending.Reads as is-ending-reads
 use Rattle.job.proofs.begin_load.Kinds as begin-load-kinds
 use Rattle.job.proofs.begin_load.Reads as begin-load-reads
 use Rattle.job.proofs.loading.Loading.turn.Kinds as turn-kinds
@@ -189,6 +191,7 @@ pub record Unique : Type 0 where
   -- the job
   pub load : OneOutcome 2 load-kinds.ps load-kinds.r load-reads.Post (λ κs s. s.1.0.now)
   pub load-first : OneOutcome 2 load-first-kinds.ps load-first-kinds.r load-first-reads.Post (λ κs s. s.1.0.now)
+  pub is-ending : OneResult 0 is-ending-kinds.ps is-ending-kinds.r is-ending-reads.Post
   pub begin-load : OneResult 1 begin-load-kinds.ps begin-load-kinds.r begin-load-reads.Post
   pub turn : OneOutcome 2 turn-kinds.ps turn-kinds.r turn-reads.Post (λ κs s. s.1.1.0.now)
   -- the states as numbers

@@ -19,7 +19,7 @@ pub struct Cycle {
 }
 
 // The answer, 0 or a refusal; the value read; the device afterwards.
-// kept: what may not change: beside a refusal stand value 0 and the device as it came (`bus_cycle`, demands' `bus-cycle-refuses`)
+// kept: what may not change: a refused cycle hands the device back as it came, which an Err would not (`bus_cycle`, demands' `bus-cycle-refuses`)
 #[derive(Clone, Copy, PartialEq, Eq, Debug)]
 pub struct Reply {
     pub answer: u32,

@@ -8,7 +8,7 @@ use commands::Mode;
 // An operation: its command's number, address and data, the µs left, and what bit 6 shows at the
 // next busy read. It is pending exactly while time is left. The order of its fields is that in which a
 // job took the fewest instructions (docs/MEASURED.md).
-// kept: what may not change: the command is a number, as `bus_cycle` takes any device and answers 5 to one above 3
+// kept: what may not change: the command is a number, as `bus_cycle` takes any device and answers 5 to one that runs with a number above 3
 #[derive(Clone, Copy, PartialEq, Eq, Debug, Default)]
 pub struct Operation {
     pub kind: u32,

@@ -46,16 +46,6 @@ targets r command a x w =
     Zero : ℕ → Type 0
     Zero n = n ≡ 0
 
--- ---- the refusal found on a part that was looked up is the part's
-module _ (f : Found) (part command a x n : ℕ) (found : f ≡ found_of part) where
-  pub command-found : n ≡ command_on f command a x → n ≡ command_refusal part command a x
-  unfolding command_refusal
-  command-found e = e ∙ ap (λ (g : Found). command_on g command a x) found
-
-  pub start-found : (p : ℕ) → n ≡ start_on f command a x p → n ≡ start_refusal part command a x p
-  unfolding start_refusal
-  start-found p e = e ∙ ap (λ (g : Found). start_on g command a x p) found
-
 -- ---- of a command's writes
 pub record Asked (part command a x : ℕ) : Type 0 where
   pub known : part_refusal part ≡ 0

@@ -65,14 +65,6 @@ valid-count d e = (both (eqb (start_refusal d.part d.command d.address d.«data�
 pub writing-count : (d : Driver) → in_range d ≡ true → d.phase ≡ Writing → d.count < write_count d.command
 writing-count d e f = ltb-true _ _ (rw f at (valid-count d e))
 
--- with the row that was found
-module _ (d : Driver) (r : Row) (e : in_range d ≡ true) (row : r ≡ row_of d.part) where
-  pub usual-row : CodesAndTimesFit r
-  usual-row = rw row (usual d.part (valid-start d e).asked.known)
-
-  pub narrow-row : r.width ≤ 16
-  narrow-row = rw row (width-most d.part (valid-start d e).asked.known)
-
 -- what the check proves the functions of the driver by: of a part that was looked up, and of counts
 pub ruleset known = (usual, width-most, interval)
 

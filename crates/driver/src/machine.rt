@@ -1,5 +1,5 @@
 // The driver: a machine that hands its state back from each step.
-ghost use Rattle.std.specs.Prelude.{◌≡◌, ◌<◌, ◌≤◌, IfSome, OnSome, eqb, is_some, leb, ltb};
+ghost use Rattle.std.specs.Prelude.{◌≡◌, ◌<◌, ◌≤◌, IfSome, eqb, is_some, leb, ltb};
 ghost use Rattle.parts.specs.Table.{row_of};
 ghost use Rattle.driver.specs.Machine.{address_of, after_write, begun, bit_seven, bit_wanted, confirming_of, confirms, count_fits, data_of, in_range, matches, most_polls, moved, no_driver, polling_of, polls, some_up_to, start_of, start_writing, step, step_of, value_wanted, writing_of};
 ghost use Rattle.driver.specs.Fits.{CodesAndTimesFit};
@@ -26,7 +26,7 @@ pub enum Phase {
 }
 
 // What is asked, and how far it is: the writes named so far, and from the polling on the polls.
-#[derive(Clone, Copy)]
+#[derive(Clone, Copy, PartialEq, Eq, Debug)]
 pub struct Driver {
     pub part: u32,
     pub command: u32,
@@ -38,7 +38,7 @@ pub struct Driver {
 }
 
 // A start: 0 or the refusal, and the driver.
-// kept: what may not change: beside a refusal stands the all-zero driver (`start`, demands' `start-refuses`, `refused-start-steps`)
+// kept: what may not change: a refused start hands back the all-zero driver, which an Err would not (`start`, demands' `start-refuses`, `refused-start-steps`)
 #[derive(Clone, Copy)]
 pub struct Started {
     pub answer: u32,
@@ -48,7 +48,7 @@ pub struct Started {
 // A step's answer: 0 with a cycle; 0, 11 or 12 at the end; or the refusal 5. Then the driver
 // handed back, the cycle, if one is named (the µs since the last one and what it does; the caller
 // sets WP#), and the polls named so far.
-// kept: what may not change: driver and polls stand beside each answer (`step`, demands' `step-refuses`, driver's `Ended`, `Meaning`)
+// kept: what may not change: driver and polls stand beside each answer, 5 too (`step`, demands' `step-refuses`, driver's `Ended`, `Meaning`)
 #[derive(Clone, Copy)]
 pub struct Step {
     pub answer: u32,

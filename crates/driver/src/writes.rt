@@ -113,10 +113,7 @@ impl Asked {
     fn writes(self) -> Writes
         ensures { result ≡ record { count = write_count self.command; writes = six_places (writes_of self.row self.command self.address self.«data») } }
     {
-        let none = Write {
-            address: 0,
-            data: 0,
-        };
+        let none = Write::default();
         let one = self.unlock_one();
         let two = self.unlock_two();
         let three = self.third_write();

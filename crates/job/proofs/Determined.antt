@@ -3,12 +3,15 @@ use mathlib.Core.Path.{◌≡◌, sym, ◌∙◌}
 use contract.Lifetimes.{Lfts}
 use borrow.Fn.Kinds.{Dens, ended_of, res_t}
 use denote.Triple.Clauses.{AtExit}
+use Rattle.parts.proofs.Unique.{Unique}
 use Rattle.job.proofs.bill.load.Kinds as load-kinds
 use Rattle.job.proofs.bill.load.Reads as load-reads
 use Rattle.job.proofs.bill.load_first.Kinds as load-first-kinds
 use Rattle.job.proofs.bill.load_first.Reads as load-first-reads
 use Rattle.job.proofs.loading.begin_load.Kinds as begin-load-kinds
 use Rattle.job.proofs.loading.begin_load.Reads as begin-load-reads
+use Rattle.job.proofs.loading.is_ending.Kinds as is-ending-kinds
+use Rattle.job.proofs.loading.is_ending.Reads as is-ending-reads
 use Rattle.job.proofs.loading.Loading.turn.Kinds as turn-kinds
 use Rattle.job.proofs.loading.Loading.turn.Reads as turn-reads
 
@@ -35,3 +38,6 @@ pub turn-unique : (κs : Lfts 2) (a : Dens κs turn-kinds.ps) (x y : (res_t turn
     (s t : AtExit (ended_of 2 turn-kinds.ps turn-kinds.r) κs)
     → turn-reads.Post κs a x s → turn-reads.Post κs a y t → (x ≡ y) × (s.1.1.0.now ≡ t.1.1.0.now)
 turn-unique κs a x y s t p q = (p.0 ∙ sym q.0, p.1 ∙ sym q.1)
+
+pub is-ending-unique : Unique is-ending-kinds.ps is-ending-kinds.r is-ending-reads.Post
+is-ending-unique κs a x y s t p q = p ∙ sym q

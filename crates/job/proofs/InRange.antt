@@ -51,10 +51,6 @@ alike d e h =
 
 -- ---- a turn, by how far the job is
 module _ (g : Loading) (j : Job) (image seen : List ℕ) (read : ℕ) where
-  pub out-of-progress : progress_in_range j image g.progress ≡ false → job_turn g j image seen read ≡ load_turned seen (load_turn 5 g None)
-  unfolding job_turn
-  out-of-progress f = rw f
-
   pub goes_by : (x : Progress) → g.progress ≡ x → progress_in_range j image g.progress ≡ true → job_turn g j image seen read ≡ progress_of g j image seen x read
   unfolding job_turn
   goes_by x e t = rw t (ap (λ (x : Progress). progress_of g j image seen x read) e)
@@ -68,10 +64,6 @@ module _ (g : Loading) (image : List ℕ) where
     pub out_of_range : (refused ≡ 0 → ⊥) → load_turn_of g image seen read ≡ load_turned seen (load_turn 5 g None)
     unfolding load_turn_of loading_in_range
     out_of_range n = simp (ne_eqb refused 0 n)
-
-    pub other-image : refused ≡ 0 → (g.count ≡ length image → ⊥) → load_turn_of g image seen read ≡ load_turned seen (load_turn 5 g None)
-    unfolding load_turn_of loading_in_range
-    other-image z n = simp (z, ne_eqb g.count (length image) n)
 
     pub turns-job : refused ≡ 0 → g.count ≡ length image → load_turn_of g image seen read ≡ job_turn g (job_in g) image seen read
     unfolding load_turn_of loading_in_range job_turn

@@ -100,44 +100,50 @@ fn write_report(e: RunEnd) -> Report
     }
 }
 
-// The µs of an operation: N polls p apart, and the confirming read.
-#[tactic(auto, unfolding(driver::specs::Machine::confirm_after), using(crate::proofs::Billing::times))]
-fn operation_time(job: Job, command: u32) -> u64
-    requires full_time_fits { FullTimeFits job }
-    requires command_bound { command ≤ 1 }
-    ensures { result ≡ operation_time job command }
-{
-    let polls = parts::rounded_up(job.row.time(command), job.p);
-    polls as u64 * job.p as u64 + driver::CONFIRM_AFTER as u64
+// A job whose full time fits its type.
+#[derive(Clone, Copy)]
+struct Full {
+    job: Job,
+    ghost fits: { FullTimeFits job },
 }
 
-// The time of a full job: every sector erased and every cell programmed.
-#[tactic(auto, unfolding(crate::specs::Bill::full_of), using(crate::proofs::Billing::times))]
-fn full_time(job: Job) -> u64
-    requires { FullTimeFits job }
-    ensures { result ≡ full_of job }
-{
-    let erase = operation_time(job, SECTOR);
-    let program = operation_time(job, PROGRAM);
-    let sectors = job.count / job.size;
-    sectors as u64 * erase + job.count as u64 * program
-}
+impl Full {
+    // The µs of an operation: N polls p apart, and the confirming read.
+    #[tactic(auto, unfolding(driver::specs::Machine::confirm_after), using(crate::proofs::Billing::times))]
+    fn operation_time(self, command: u32) -> u64
+        requires { command ≤ 1 }
+        ensures { result ≡ operation_time self.job command }
+    {
+        let polls = parts::rounded_up(self.job.row.time(command), self.job.p);
+        polls as u64 * self.job.p as u64 + driver::CONFIRM_AFTER as u64
+    }
 
-// The bill of a job's counts and sum, and the number that the loader stopped with.
-fn write_bill(job: Job, t: Tally, sum: u16, answer: u32) -> Bill
-    requires { FullTimeFits job }
-    ensures { result ≡ bill_of job t sum answer }
-{
-    Bill {
-        saved: full_time(job).saturating_sub(t.time),
-        spent: t.time,
-        erases: t.erases,
-        programs: t.programs,
-        polls: t.polls,
-        scans: t.scans,
-        confirms: t.confirms,
-        sum,
-        answer,
+    // The time of a full job: every sector erased and every cell programmed.
+    #[tactic(auto, unfolding(crate::specs::Bill::full_of), using(crate::proofs::Billing::times))]
+    fn time(self) -> u64
+        ensures { result ≡ full_of self.job }
+    {
+        let erase = self.operation_time(SECTOR);
+        let program = self.operation_time(PROGRAM);
+        let sectors = self.job.count / self.job.size;
+        sectors as u64 * erase + self.job.count as u64 * program
+    }
+
+    // The bill of a job's counts and sum, and the number that the loader stopped with.
+    fn bill(self, t: Tally, sum: u16, answer: u32) -> Bill
+        ensures { result ≡ bill_of self.job t sum answer }
+    {
+        Bill {
+            saved: self.time().saturating_sub(t.time),
+            spent: t.time,
+            erases: t.erases,
+            programs: t.programs,
+            polls: t.polls,
+            scans: t.scans,
+            confirms: t.confirms,
+            sum,
+            answer,
+        }
     }
 }
 
@@ -172,7 +178,7 @@ pub fn load(part: u32, cells: &mut [u16], first: u32, image: &[u16], wp: bool, p
             let ended = run(&mut *cells, &Work { job, image }, MOST_CYCLES);
             let from = first as usize;
             let total = values::sum(&cells[from..from + image.len()], row.width);
-            write_bill(job, ended.held.tally, total, ended.answer)
+            Full { job }.bill(ended.held.tally, total, ended.answer)
         }
         Err(refusal) => Bill::from(refusal),
     }

@@ -8,5 +8,5 @@ mod run;
 
 pub use bill::{Bill, Report, load, load_first};
 pub use loader::{Job, Loader, Purpose, Stage, Task, Turn};
-pub use loading::{Begun, LoadTurn, Loading, Progress, begin_load};
+pub use loading::{Begun, LoadTurn, Loading, Progress, begin_load, is_ending};
 pub use run::{Held, Last, Tally};

@@ -57,7 +57,7 @@ pub enum Purpose {
 }
 
 // The next cycle with its purpose, or the end: 0, or what a driver ended with.
-// kept: no plainer: a Result's Err would be the end of every job, and Stop(0) its success
+// kept: no plainer: a Result's Err would be the end of every job, and Stop(0) its success; the number is the one that C is answered
 #[derive(Clone, Copy)]
 pub enum Turn {
     Play(Loader, Purpose, Cycle),
@@ -114,6 +114,7 @@ pub(crate) struct Place<'a> {
 
 impl<'a> Place<'a> {
     // Another cell of the sector.
+    // kept: no plainer: a struct with ghost fields takes no `..`
     fn moved_to(&self, at: u32) -> Place<'a>
         requires { at < self.now.work.job.size }
         ensures work { result.work ≡ self.now.work }

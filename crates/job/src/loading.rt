@@ -79,23 +79,23 @@ pub fn begin_load(part: u32, first: u32, image: &[u16], wp: bool, p: u32) -> Beg
 
 // Whether a number is one that a job ends with.
 #[tactic(auto, unfolding(crate::specs::Loading::is_ending), using(parts::proofs::Rules::tests))]
-fn is_ending(n: u32) -> bool
+pub fn is_ending(n: u32) -> bool
     ensures { result ≡ is_ending n }
 {
     n == 0 || n == Refusal::GaveUp.number() || n == Refusal::Differs.number()
 }
 
 // Whether two drivers ask for the same.
-// kept: no plainer: five of seven fields, which no derived `==` compares
 #[tactic(auto, unfolding(crate::specs::Loading::same_asked), using(parts::proofs::Rules::tests))]
 fn same_asked(d: Driver, e: Driver) -> bool
     ensures { result ≡ same_asked d e }
 {
-    d.part == e.part
-        && d.command == e.command
-        && d.address == e.address
-        && d.data == e.data
-        && d.p == e.p
+    let same = Driver {
+        phase: d.phase,
+        count: d.count,
+        ..e
+    };
+    d == same
 }
 
 impl Job {

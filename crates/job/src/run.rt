@@ -75,6 +75,7 @@ fn last_of(elapsed: u32, wp: bool, action: Action) -> Last
 }
 
 impl Tally {
+    // kept: no plainer: `CountsFit` is what is left of the counts' room at a cycle, and each cycle takes of it; no type holds it
     // An operation more.
     fn begun(self, command: u32, elapsed: u32) -> Tally
         requires { CountsFit self MOST-CYCLES }

@@ -35,20 +35,12 @@ fn refused_job() -> JobFile
 fn is_wrong(t: &[u8], before: usize) -> bool
     ensures { result ≡ wrong t.now before }
 {
-    if 0 < one_byte(t, 3) {
-        return true;
-    }
-    if 0 < two_bytes(t, 10) {
-        return true;
-    }
-    if 1 < one_byte(t, 2) {
-        return true;
-    }
     let distance = four_bytes(t, 12) as usize;
-    if distance % 2 == 1 {
-        return true;
-    }
-    before < distance
+    0 < one_byte(t, 3)
+        || 0 < two_bytes(t, 10)
+        || 1 < one_byte(t, 2)
+        || distance % 2 == 1
+        || before < distance
 }
 
 // What a job file asks: 13 for a malformed one.

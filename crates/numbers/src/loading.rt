@@ -69,7 +69,7 @@ const NO_DRIVER: DriverNumbers = DriverNumbers {
 };
 
 // The number of what is driven.
-// kept: no plainer: Task and u32 are both of other crates, so no impl of From may stand here, either way
+// kept: the C interface: the number by which C knows a task stands by name, among those of how far a job is
 fn task_number(task: Task) -> u32
     ensures { result ≡ task_number task }
 {
@@ -255,15 +255,14 @@ fn no_turn(answer: u32, given: LoadingNumbers) -> TurnNumbers
 }
 
 // The numbers of a turn: one that is neither under way nor at an end is refused.
-#[tactic(auto, unfolding(crate::specs::Loading::turn_numbers, job::specs::Loading::is_ending))]
+#[tactic(auto, unfolding(crate::specs::Loading::turn_numbers))]
 fn turn_numbers(given: LoadingNumbers, t: LoadTurn) -> TurnNumbers
     ensures { result ≡ turn_numbers given t }
 {
-    let answer = t.answer;
-    if answer == 0 || answer == Refusal::GaveUp.number() || answer == Refusal::Differs.number() {
+    if job::is_ending(t.answer) {
         return told_turn(t);
     }
-    no_turn(answer, given)
+    no_turn(t.answer, given)
 }
 
 // Given the value last read, names the next cycle or the end: 5 for numbers that are no state in range.

@@ -71,7 +71,7 @@ pub(crate) const NOTHING_TO_SEND: CycleNumbers = CycleNumbers {
 };
 
 // The number of a phase.
-// kept: no plainer: Phase and u32 are both of other crates, so no impl of From may stand here, either way
+// kept: the C interface: the number by which C knows a phase stands by name, and not by the order of another crate's enum
 fn phase_number(phase: Phase) -> u32
     ensures { result ≡ phase_number phase }
 {

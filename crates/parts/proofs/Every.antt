@@ -37,11 +37,6 @@ pub pick_same : {A : Type 0} (b : Bool) (x : A) → pick b x x ≡ x
 pick_same true x = refl
 pick_same false x = refl
 
--- a test told as one
-pub pick-test : (b : Bool) → pick b true false ≡ b
-pick-test true = refl
-pick-test false = refl
-
 -- the test f holds at each entry
 abbrev pub every : {A : Type 0} → (A → Bool) → List A → Bool
 every f [] = true

@@ -6,7 +6,7 @@ ghost use Rattle.parts.specs.Width.{sector_size};
 use crate::{End, Row};
 
 // A range of cells: its first address and how many.
-#[derive(Clone, Copy)]
+#[derive(Clone, Copy, PartialEq, Eq, Debug, Default)]
 pub struct Span {
     pub first: u32,
     pub count: u32,
@@ -27,7 +27,7 @@ fn range(size: u32, address: u32) -> Span
     ensures { result ≡ range_of size address }
 {
     if size == 0 {
-        return Span { first: 0, count: 0 };
+        return Span::default();
     }
     Span {
         first: address / size * size,
@@ -77,7 +77,7 @@ impl Row {
         ensures { result ≡ protected_of self }
     {
         match self.protected {
-            End::Neither => Span { first: 0, count: 0 },
+            End::Neither => Span::default(),
             End::Lowest => self.block_of(0),
             End::Highest => self.block_of(self.cells.saturating_sub(1)),
         }

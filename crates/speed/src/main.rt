@@ -36,6 +36,7 @@ fn number<R: Read + Drop>(input: R) -> usize
 }
 
 // Loads so many words of the image, and prints what was counted.
+// kept: no plainer: a Display of a type of its own would print these lines, and be printed in one place
 fn load(rt: &impl Print, cells: &mut [u16; 1048576], image: &[u16]) -> io::Result<()> {
     let b = job::load(8, cells, 0, image, true, 10);
     println!(rt; "answer {}", b.answer)?;
