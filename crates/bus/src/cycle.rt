@@ -162,6 +162,7 @@ impl From<DeviceNumbers> for Device {
 }
 
 // The numbers of a reply: a refused cycle hands back the numbers as they came.
+// kept: no plainer: of two arguments, which From has not
 #[tactic(auto, unfolding(crate::specs::Cycle::reply_numbers))]
 fn reply_numbers(given: DeviceNumbers, r: Reply) -> ReplyNumbers
     ensures { result ≡ reply_numbers given r }

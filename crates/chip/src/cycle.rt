@@ -96,6 +96,7 @@ fn bit_2(core: Core) -> u16
 
 impl Part {
     // Time passes.
+    // kept: no plainer: `RunsInside` ties what runs to the length of the cells, which are lent anew at each cycle; so of `cut` and `act`
     #[tactic(auto, unfolding(device::specs::Cycle::settled_of))]
     fn settle(self, cells: &mut [u16], core: Core, elapsed: u32) -> Core
         requires { RunsInside self.row core (length cells.old) }

@@ -38,6 +38,7 @@ fn scar_each(cells: &mut [u16], width: u32, scar: u16)
 }
 
 // The operation completes on the cells.
+// kept: no plainer: that the range is inside the cells ties it to what is lent at this cycle; so of `cut_short` and `cut_one`
 #[tactic(auto, unfolding(device::specs::Operation::complete_on), using(crate::proofs::Rules::completion))]
 pub(crate) fn complete(cells: &mut [u16], part: Part, o: Operation)
     requires { (cells_of part.row o).first + (cells_of part.row o).count ≤ length cells.old }

@@ -97,6 +97,7 @@ fn last_write(row: Row, a: u32, x: u16) -> Effect
 pub fn effect_of(row: Row, stage: u32, a: u32, x: u16) -> Effect
     ensures { result ≡ effect_of row stage a x }
 {
+    // kept: what may not change: the stage is a number of a device, of which `bus_cycle` takes any
     match stage {
         NONE_BEGUN if is_at(row, row.u1, a, x, 0xaa) => Effect::Goes(FIRST_AAH),
         FIRST_AAH if is_at(row, row.u2, a, x, 0x55) => Effect::Goes(FIRST_55H),

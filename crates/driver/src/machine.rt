@@ -204,6 +204,7 @@ impl Checked {
     }
 
     // Names the next write.
+    // kept: no plainer: that a write is left holds in one phase only, so in no type; so of `after_write` and `nth_write`
     #[tactic(auto, unfolding(crate::specs::Machine::writing_of))]
     fn write_on(self) -> Step
         requires { self.driver.count < write_count self.driver.command }

@@ -212,6 +212,7 @@ impl Loading {
         if !progress_in_range(work, self.progress) {
             return self.answers(Refusal::BadState.number());
         }
+        // kept: the C interface: how far a job is crosses C as numbers between two turns, which a closure could not
         match self.progress {
             Progress::Waiting => self.taken(work.next_sector(0)),
             Progress::Within(loader) => self.taken(loader.turn(work, seen, read)),

@@ -154,6 +154,7 @@ impl From<Loading> for LoadingNumbers {
 }
 
 // What is done in a sector, of some numbers.
+// kept: no plainer: this and `progress_at` are steps of the impl below, and this is of two arguments
 #[tactic(auto, unfolding(crate::specs::Loading::stage_at))]
 fn stage_at(progress: u32, driver: DriverNumbers) -> Stage
     ensures { result ≡ stage_at progress driver }
@@ -255,6 +256,7 @@ fn no_turn(answer: u32, given: LoadingNumbers) -> TurnNumbers
 }
 
 // The numbers of a turn: one that is neither under way nor at an end is refused.
+// kept: no plainer: of two arguments, which From has not
 #[tactic(auto, unfolding(crate::specs::Loading::turn_numbers))]
 fn turn_numbers(given: LoadingNumbers, t: LoadTurn) -> TurnNumbers
     ensures { result ≡ turn_numbers given t }

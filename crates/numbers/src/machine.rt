@@ -135,6 +135,7 @@ impl From<DriverNumbers> for Driver {
 }
 
 // The numbers of a cycle that is sent: a read or a write.
+// kept: no plainer: of two arguments, which From has not
 pub(crate) fn sent_numbers(elapsed: u32, action: Action) -> CycleNumbers
     ensures { result ≡ sent_numbers elapsed action }
 {
