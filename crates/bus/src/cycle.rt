@@ -6,7 +6,7 @@ use commands::Mode;
 use device::{Action, Core, Cycle, Device, Operation, Reply};
 
 // ---- the numbers of the modes
-const READ_MODE: u32 = 0;
+pub const READ_MODE: u32 = 0;
 
 const IDENTIFICATION: u32 = 1;
 

@@ -3,4 +3,4 @@
 
 mod cycle;
 
-pub use cycle::{DeviceNumbers, OperationNumbers, ReplyNumbers, cycled};
+pub use cycle::{DeviceNumbers, OperationNumbers, READ_MODE, ReplyNumbers, cycled};
