@@ -1,10 +1,10 @@
 -- Laws of a number in bytes: a single byte, two parts of a number, and two and four bytes by each of theirs.
 use mathlib.Core.Path.{◌≡◌, refl, ap, ◌∙◌}
 use mathlib.Core.List.{List, [], ◌∷◌}
-use Prim.Native.Nat.{ℕ, zero, suc, ◌+◌, ◌*◌, ◌^◌}
+use Prim.Native.Nat.{ℕ, zero, suc, ◌+◌, ◌*◌, ◌^◌, ◌≤◌}
 use native.Mathlib.Nat.{zero-add, suc-add, mul-zero, mul_comm, mul_assoc, pow-suc}
 use native.Mathlib.Omega.{arith}
-use lib.ListN.{get_or, take, drop}
+use lib.ListN.{length, get_or, take, drop, drop_of_length-le}
 use lib.Seq.{take-nil, drop-drop}
 use Rattle.jobfile.specs.Bytes.{number, field}
 
@@ -35,11 +35,14 @@ pub field-from : (bytes : List ℕ) (b a n : ℕ) → field (drop b bytes) a n �
 unfolding field
 field-from bytes b a n = rw (drop-drop a b bytes)
 
+-- past the end
+pub field_past : (bytes : List ℕ) (a n : ℕ) → length bytes ≤ a → field bytes a n ≡ 0
+unfolding number field
+field_past bytes a n h = simp (drop_of_length-le bytes h, take-nil)
+
 -- two bytes and four, each by itself
-pub field-two : (bytes : List ℕ) (a : ℕ) → field bytes a 2 ≡ field (drop a bytes) 0 1 + 256 * field (drop a bytes) 1 1
-field-two bytes a =
-    let e : a + 0 ≡ a = omega arith in
-    rw (field-from bytes a 0 1, field-from bytes a 1 1, e) (omega (arith, field-split bytes a 1 1))
+pub field-two : (bytes : List ℕ) (a : ℕ) → field bytes a 2 ≡ field bytes a 1 + 256 * field bytes (a + 1) 1
+field-two bytes a = omega (arith, field-split bytes a 1 1)
 
 pub field-four : (bytes : List ℕ) (a : ℕ)
     → field bytes a 4 ≡ field (drop a bytes) 0 1 + 256 * field (drop a bytes) 1 1 + 65536 * field (drop a bytes) 2 1 + 16777216 * field (drop a bytes) 3 1
@@ -50,4 +53,4 @@ field-four bytes a =
     rw (field-from bytes a 0 1, field-from bytes a 1 1, field-from bytes a 2 1, field-from bytes a 3 1, e)
     (omega (arith, field-split bytes a 2 2, field-split bytes a 1 1, upper))
 
-pub ruleset numbers = (field-one, field-two, field-four)
+pub ruleset numbers = (field-one, field_past, field-two, field-four)

@@ -23,7 +23,11 @@ fn bytes_at<const N: usize>(bytes: &[u8], a: usize) -> [u8; N]
 pub(crate) fn two_bytes(bytes: &[u8], a: usize) -> u16
     ensures { result ≡ field bytes.now a 2 }
 {
-    u16::from_le_bytes(bytes_at(bytes, a))
+    // kept: tried: twice the time over `bytes_at`
+    if bytes.len() <= a {
+        return 0;
+    }
+    u16::from_le_bytes([one_byte(bytes, a), one_byte(bytes, a + 1)])
 }
 
 // The number in four bytes.
