@@ -1,6 +1,6 @@
 -- The search for a rising bit, in a cell and over the cells; and by the library's words the values at the front, those that fit, and the sum.
-use Rattle.std.proofs.Common.{◌≡◌, ◌⊎◌, inl, inr, ℕ, suc, ◌+◌, ◌-◌, ◌/◌, ◌%◌, ◌<◌, ◌≤◌, Bool, true, false, cond, ◌&&◌, eqb, Some, None, List, [], ◌∷◌, fold, refl, ◌∙◌, arith, eq-eqb, ne_eqb}
-use Rattle.std.specs.List.{prefix_len, list_all}
+use Rattle.std.proofs.Common.{◌≡◌, ◌⊎◌, inl, inr, ℕ, suc, ◌+◌, ◌-◌, ◌/◌, ◌%◌, ◌<◌, ◌≤◌, Bool, true, false, cond, eqb, Some, None, List, [], ◌∷◌, length, get_or, drop, fold, refl, ◌∙◌, add-one, arith, drop_of_length-le, drop-cons, eq-eqb, ne_eqb}
+use Rattle.std.specs.List.{prefix_len}
 use Rattle.parts.specs.Pick.{pick}
 use Rattle.parts.specs.Width.{value_of, fits_in}
 use Rattle.values.specs.Search.{rise_in, rise_from, leading_of}
@@ -57,14 +57,18 @@ prefix-leading v (x ∷ xs) = by (eqb x v) (prefix-leading v xs)
     by true e = rw e
     by false e = refl
 
-pub all-fit : (w : ℕ) (xs : List ℕ) → list_all (fits_in w) xs ≡ fit_all w xs
-unfolding fit_all
-all-fit w [] = refl
-all-fit w (x ∷ xs) = by (fits_in w x) (all-fit w xs)
-  where
-    by : (b : Bool) → list_all (fits_in w) xs ≡ fit_all w xs → b && list_all (fits_in w) xs ≡ pick b (fit_all w xs) false
-    by true e = e
-    by false e = refl
+module _ (w : ℕ) (xs : List ℕ) (i : ℕ) where
+  pub fit-more : i < length xs → fits_in w (get_or xs i 0) ≡ true → fit_all w (drop i xs) ≡ fit_all w (drop (i + 1) xs)
+  unfolding fit_all
+  fit-more h e = rw (drop-cons xs i 0 h) (simp (e, add-one))
+
+  pub fit-ends : i < length xs → fits_in w (get_or xs i 0) ≡ false → fit_all w (drop i xs) ≡ false
+  unfolding fit_all
+  fit-ends h e = rw (drop-cons xs i 0 h) (simp e)
+
+  pub fit_none : length xs ≤ i → fit_all w (drop i xs) ≡ true
+  unfolding fit_all
+  fit_none h = rw (drop_of_length-le xs h)
 
 pub fold-total : (w a : ℕ) (xs : List ℕ) → a < 65536 → fold (λ s x. (s + value_of w x) % 65536) a xs ≡ (a + total_of w xs) % 65536
 unfolding total_of

@@ -6,5 +6,10 @@ ghost use Rattle.values.specs.Fit.{fit_all};
 pub fn all_fit(width: u32, image: &[u16]) -> bool
     ensures { result ≡ fit_all width image.now }
 {
-    image.iter().all(|&x| parts::fits(width, x))
+    for &x in image {
+        if !parts::fits(width, x) {
+            return false;
+        }
+    }
+    true
 }

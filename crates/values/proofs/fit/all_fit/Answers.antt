@@ -1,8 +1,14 @@
-use Rattle.std.proofs.Common.{◌∙◌, rules}
-use Rattle.std.proofs.lemmas.Iterator.{YieldsList-from_slice}
-use Rattle.std.proofs.lemmas.Iterator.Search.{all_from_yields_List}
-use Rattle.values.proofs.Turns.{all-fit}
+use Rattle.std.proofs.Common.{sym, ◌∙◌, rules}
+use Rattle.values.proofs.Turns.{fit-more, fit-ends, fit_none}
 use Rattle.values.proofs.fit.all_fit.Goals as goal
 
+pub returns-then-not-fits : goal.returns-then-not-fits
+returns-then-not-fits c = let g = c.args in
+    sym (fit-ends g.width g.image.now c.loop-x.x-index (search rules) (search rules)) ∙ c.loop-x.invariant
+
+pub loop-x-preserved : goal.loop-x-preserved
+loop-x-preserved c = let g = c.args in
+    sym (fit-more g.width g.image.now c.loop-x.x-index (search rules) (search rules)) ∙ c.loop-x.invariant
+
 pub returns : goal.returns
-returns c = let xs = c.args.image.now in all_from_yields_List _ _ _ _ c.all.ensures.ran (YieldsList-from_slice xs cc) (λ x b q k. search rules) ∙ all-fit c.args.width xs
+returns c = sym (fit_none c.args.width c.args.image.now c.loop-x.x-index (search rules)) ∙ c.loop-x.invariant
