@@ -3,4 +3,4 @@
 
 mod refusal;
 
-pub use refusal::{check_begin, check_job, check_standing};
+pub use refusal::{check_begin, check_job, check_standing, check_standing_on};

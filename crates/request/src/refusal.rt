@@ -1,8 +1,8 @@
 // The refusals of a job, in document 01's order.
 ghost use Rattle.std.specs.Prelude.{◌≡◌, ◌+◌, ◌≤◌, leb, IfOk, OnOk};
 ghost use Rattle.parts.specs.Refused.{answer_of};
-ghost use Rattle.parts.specs.Table.{row_of};
-ghost use Rattle.request.specs.Refusal.{begin_refusal, job_refusal, meets, protection_refusal, range_refusal, request_refusal, sectors_refusal, standing_refusal};
+ghost use Rattle.parts.specs.Table.{row_of, told_row};
+ghost use Rattle.request.specs.Refusal.{begin_refusal, job_refusal, meets, protection_refusal, range_refusal, request_refusal, sectors_refusal, standing_on, standing_refusal};
 
 use parts::{Refusal, Row, Span};
 
@@ -114,17 +114,32 @@ pub fn check_begin(part: u32, first: u32, image: &[u16], wp: bool, p: u32) -> Re
     Ok(known)
 }
 
-// The same of a job under way, with no pass over its image: 1, 10, 6, 7, 9.
-#[tactic(auto, unfolding(crate::specs::Refusal::standing_refusal), using(parts::proofs::Told::refused))]
-pub fn check_standing(part: u32, first: u32, count: u32, wp: bool, p: u32) -> Result<Row, Refusal>
-    ensures answer { answer_of result ≡ standing_refusal part first count wp p }
-    ensures row { IfOk result (λ r. r ≡ row_of part) }
+// The same of a job under way on a part that was looked up, with no pass over its image: 1, 10, 6, 7, 9.
+#[tactic(auto, using(parts::proofs::Told::refused))]
+pub fn check_standing_on(
+    found: Result<Row, Refusal>,
+    first: u32,
+    count: u32,
+    wp: bool,
+    p: u32,
+) -> Result<Row, Refusal>
+    ensures answer { answer_of result ≡ standing_on (told_row found) first count wp p }
+    ensures row { IfOk result (λ r. r ≡ (told_row found).row) }
 {
-    let row = table::part_row(part)?;
+    let row = found?;
     if !parts::is_interval(p) {
         return Err(Refusal::BadInterval);
     }
     check_sectors(row, first as usize, count as usize)?;
     check_protection(row, first as usize, count as usize, wp)?;
     Ok(row)
+}
+
+// The same by the part's number.
+#[tactic(auto, unfolding(crate::specs::Refusal::standing_refusal))]
+pub fn check_standing(part: u32, first: u32, count: u32, wp: bool, p: u32) -> Result<Row, Refusal>
+    ensures answer { answer_of result ≡ standing_refusal part first count wp p }
+    ensures row { IfOk result (λ r. r ≡ row_of part) }
+{
+    check_standing_on(table::part_row(part), first, count, wp, p)
 }
