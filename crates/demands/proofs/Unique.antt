@@ -14,6 +14,7 @@ use Rattle.jobfile.proofs.Determined as jobfile
 use Rattle.billing.proofs.Determined as billing
 use Rattle.alone.proofs.Determined as alone
 use Rattle.station.proofs.Determined as station
+use Rattle.random.proofs.Determined as random
 use Rattle.demands.specs.Unique.{Unique}
 
 pub unique : Unique
@@ -42,6 +43,7 @@ unique =
       check-job = request.check-job-unique;
       check-begin = request.check-begin-unique;
       check-standing = request.check-standing-unique;
+      check-standing-on = request.check-standing-on-unique;
       effect_of = commands.effect-of-unique;
       no-operation = device.no-operation-unique;
       fresh = device.fresh-unique;
@@ -61,9 +63,23 @@ unique =
       cycled = bus.cycled-unique;
       begin-numbers = numbers.begin-numbers-unique;
       turned = numbers.turned-unique;
+      operation-numbers = bus.operation-numbers-unique;
+      device-numbers = bus.device-numbers-unique;
+      operation = bus.operation-unique;
+      device = bus.device-unique;
+      driver-numbers = numbers.driver-numbers-unique;
+      driver = numbers.driver-unique;
+      next-numbers = numbers.next-numbers-unique;
+      step-numbers = numbers.step-numbers-unique;
+      loading-numbers = numbers.loading-numbers-unique;
+      loading = numbers.loading-unique;
+      sending-numbers = numbers.sending-numbers-unique;
+      refused-bill = job.refused-bill-unique;
+      refused-report = job.refused-report-unique;
       read-job = jobfile.read-job-unique;
       read-image = jobfile.read-image-unique;
       bill-file = billing.bill-file-unique;
+      word = random.word-unique;
       station-figure = station.figure-unique;
       station-figure-answer = station.answer-unique;
       station-write-address = station.write-address-unique;

@@ -31,6 +31,8 @@ use Rattle.request.proofs.check_begin.Kinds as check-begin-kinds
 use Rattle.request.proofs.check_begin.Reads as check-begin-reads
 use Rattle.request.proofs.check_standing.Kinds as check-standing-kinds
 use Rattle.request.proofs.check_standing.Reads as check-standing-reads
+use Rattle.request.proofs.check_standing_on.Kinds as check-standing-on-kinds
+use Rattle.request.proofs.check_standing_on.Reads as check-standing-on-reads
 use Rattle.parts.proofs.span.Span.holds.Kinds as span-holds-kinds
 use Rattle.parts.proofs.span.Span.holds.Reads as span-holds-reads
 use Rattle.parts.proofs.table.Row.sector_size.Kinds as sector-size-kinds
@@ -95,6 +97,34 @@ use Rattle.jobfile.proofs.read_image.Kinds as read-image-kinds
 use Rattle.jobfile.proofs.read_image.Reads as read-image-reads
 use Rattle.billing.proofs.bill_file.Kinds as bill-file-kinds
 use Rattle.billing.proofs.bill_file.Reads as bill-file-reads
+use Rattle.bus.proofs.cycle.OperationNumbersFromOperation.from.Kinds as operation-numbers-kinds
+use Rattle.bus.proofs.cycle.OperationNumbersFromOperation.from.Reads as operation-numbers-reads
+use Rattle.bus.proofs.cycle.DeviceNumbersFromDevice.from.Kinds as device-numbers-kinds
+use Rattle.bus.proofs.cycle.DeviceNumbersFromDevice.from.Reads as device-numbers-reads
+use Rattle.bus.proofs.cycle.OperationFromOperationNumbers.from.Kinds as operation-kinds
+use Rattle.bus.proofs.cycle.OperationFromOperationNumbers.from.Reads as operation-reads
+use Rattle.bus.proofs.cycle.DeviceFromDeviceNumbers.from.Kinds as device-kinds
+use Rattle.bus.proofs.cycle.DeviceFromDeviceNumbers.from.Reads as device-reads
+use Rattle.numbers.proofs.machine.DriverNumbersFromDriver.from.Kinds as driver-numbers-kinds
+use Rattle.numbers.proofs.machine.DriverNumbersFromDriver.from.Reads as driver-numbers-reads
+use Rattle.numbers.proofs.machine.DriverFromDriverNumbers.from.Kinds as driver-kinds
+use Rattle.numbers.proofs.machine.DriverFromDriverNumbers.from.Reads as driver-reads
+use Rattle.numbers.proofs.machine.CycleNumbersFromOptionTuple2U32Action.from.Kinds as next-numbers-kinds
+use Rattle.numbers.proofs.machine.CycleNumbersFromOptionTuple2U32Action.from.Reads as next-numbers-reads
+use Rattle.numbers.proofs.machine.StepNumbersFromStep.from.Kinds as step-numbers-kinds
+use Rattle.numbers.proofs.machine.StepNumbersFromStep.from.Reads as step-numbers-reads
+use Rattle.numbers.proofs.loading.LoadingNumbersFromLoading.from.Kinds as loading-numbers-kinds
+use Rattle.numbers.proofs.loading.LoadingNumbersFromLoading.from.Reads as loading-numbers-reads
+use Rattle.numbers.proofs.loading.LoadingFromLoadingNumbers.from.Kinds as loading-kinds
+use Rattle.numbers.proofs.loading.LoadingFromLoadingNumbers.from.Reads as loading-reads
+use Rattle.numbers.proofs.loading.CycleNumbersFromOptionTuple2PurposeCycle.from.Kinds as sending-numbers-kinds
+use Rattle.numbers.proofs.loading.CycleNumbersFromOptionTuple2PurposeCycle.from.Reads as sending-numbers-reads
+use Rattle.job.proofs.bill.BillFromRefusal.from.Kinds as refused-bill-kinds
+use Rattle.job.proofs.bill.BillFromRefusal.from.Reads as refused-bill-reads
+use Rattle.job.proofs.bill.ReportFromRefusal.from.Kinds as refused-report-kinds
+use Rattle.job.proofs.bill.ReportFromRefusal.from.Reads as refused-report-reads
+use Rattle.random.proofs.Random.word.Kinds as word-kinds
+use Rattle.random.proofs.Random.word.Reads as word-reads
 use Rattle.station.proofs.station_figure.Kinds as c-figure-kinds
 use Rattle.station.proofs.station_figure.Reads as c-figure-reads
 use Rattle.station.proofs.station_figure_answer.Kinds as c-answer-kinds
@@ -142,9 +172,9 @@ OneResult n ps r Post =
     (κs : Lfts n) (a : Dens κs ps) (x y : (res_t r κs).Denot) (s t : AtExit (ended_of n ps r) κs)
     → Post κs a x s → Post κs a y t → x ≡ y
 
--- and so is what the lent slice holds afterwards
-abbrev pub OneOutcome : (n : ℕ) (ps : List (ParamKind n)) (r : ResultKind n) → Out n ps r
-    → ((κs : Lfts n) → AtExit (ended_of n ps r) κs → List ℕ) → Type 0
+-- and so is what is lent afterwards: a slice's values, or the place in a row of random words
+abbrev pub OneOutcome : {A : Type 0} (n : ℕ) (ps : List (ParamKind n)) (r : ResultKind n) → Out n ps r
+    → ((κs : Lfts n) → AtExit (ended_of n ps r) κs → A) → Type 0
 OneOutcome n ps r Post held =
     (κs : Lfts n) (a : Dens κs ps) (x y : (res_t r κs).Denot) (s t : AtExit (ended_of n ps r) κs)
     → Post κs a x s → Post κs a y t → (x ≡ y) × (held κs s ≡ held κs t)
@@ -176,6 +206,7 @@ pub record Unique : Type 0 where
   pub check-job : OneResult 1 check-job-kinds.ps check-job-kinds.r check-job-reads.Post
   pub check-begin : OneResult 1 check-begin-kinds.ps check-begin-kinds.r check-begin-reads.Post
   pub check-standing : OneResult 0 check-standing-kinds.ps check-standing-kinds.r check-standing-reads.Post
+  pub check-standing-on : OneResult 0 check-standing-on-kinds.ps check-standing-on-kinds.r check-standing-on-reads.Post
   -- the table of commands
   pub effect_of : OneResult 0 effect-of-kinds.ps effect-of-kinds.r effect-of-reads.Post
   -- the chip
@@ -200,11 +231,27 @@ pub record Unique : Type 0 where
   pub cycled : OneOutcome 1 n-cycled-kinds.ps n-cycled-kinds.r n-cycled-reads.Post (λ κs s. s.1.0.now)
   pub begin-numbers : OneResult 0 n-begin-kinds.ps n-begin-kinds.r n-begin-reads.Post
   pub turned : OneOutcome 2 n-turned-kinds.ps n-turned-kinds.r n-turned-reads.Post (λ κs s. s.1.1.0.now)
+  -- the conversions: of a state to its numbers and back, of what is named, of a refusal
+  pub operation-numbers : OneResult 0 operation-numbers-kinds.ps operation-numbers-kinds.r operation-numbers-reads.Post
+  pub device-numbers : OneResult 0 device-numbers-kinds.ps device-numbers-kinds.r device-numbers-reads.Post
+  pub operation : OneResult 0 operation-kinds.ps operation-kinds.r operation-reads.Post
+  pub device : OneResult 0 device-kinds.ps device-kinds.r device-reads.Post
+  pub driver-numbers : OneResult 0 driver-numbers-kinds.ps driver-numbers-kinds.r driver-numbers-reads.Post
+  pub driver : OneResult 0 driver-kinds.ps driver-kinds.r driver-reads.Post
+  pub next-numbers : OneResult 0 next-numbers-kinds.ps next-numbers-kinds.r next-numbers-reads.Post
+  pub step-numbers : OneResult 0 step-numbers-kinds.ps step-numbers-kinds.r step-numbers-reads.Post
+  pub loading-numbers : OneResult 0 loading-numbers-kinds.ps loading-numbers-kinds.r loading-numbers-reads.Post
+  pub loading : OneResult 0 loading-kinds.ps loading-kinds.r loading-reads.Post
+  pub sending-numbers : OneResult 0 sending-numbers-kinds.ps sending-numbers-kinds.r sending-numbers-reads.Post
+  pub refused-bill : OneResult 0 refused-bill-kinds.ps refused-bill-kinds.r refused-bill-reads.Post
+  pub refused-report : OneResult 0 refused-report-kinds.ps refused-report-kinds.r refused-report-reads.Post
   -- the job file
   pub read-job : OneResult 1 read-job-kinds.ps read-job-kinds.r read-job-reads.Post
   pub read-image : OneOutcome 2 read-image-kinds.ps read-image-kinds.r read-image-reads.Post (λ κs s. s.1.1.0.now)
   -- the bill of a job file
   pub bill-file : OneResult 1 bill-file-kinds.ps bill-file-kinds.r bill-file-reads.Post
+  -- the random words of the programs that are timed
+  pub word : OneOutcome 1 word-kinds.ps word-kinds.r word-reads.Post (λ κs s. s.0.now.state)
   -- the C controller
   pub station-figure : OneResult 0 c-figure-kinds.ps c-figure-kinds.r c-figure-reads.Post
   pub station-figure-answer : OneResult 0 c-answer-kinds.ps c-answer-kinds.r c-answer-reads.Post

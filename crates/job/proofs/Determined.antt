@@ -14,6 +14,10 @@ use Rattle.job.proofs.loading.is_ending.Kinds as is-ending-kinds
 use Rattle.job.proofs.loading.is_ending.Reads as is-ending-reads
 use Rattle.job.proofs.loading.Loading.turn.Kinds as turn-kinds
 use Rattle.job.proofs.loading.Loading.turn.Reads as turn-reads
+use Rattle.job.proofs.bill.BillFromRefusal.from.Kinds as refused-bill-kinds
+use Rattle.job.proofs.bill.BillFromRefusal.from.Reads as refused-bill-reads
+use Rattle.job.proofs.bill.ReportFromRefusal.from.Kinds as refused-report-kinds
+use Rattle.job.proofs.bill.ReportFromRefusal.from.Reads as refused-report-reads
 
 -- any two outcomes of a job that the promise allows have the same bill and leave the same cells
 pub load-unique : (κs : Lfts 2) (a : Dens κs load-kinds.ps) (x y : (res_t load-kinds.r κs).Denot)
@@ -41,3 +45,9 @@ turn-unique κs a x y s t p q = (p.0 ∙ sym q.0, p.1 ∙ sym q.1)
 
 pub is-ending-unique : Unique is-ending-kinds.ps is-ending-kinds.r is-ending-reads.Post
 is-ending-unique κs a x y s t p q = p ∙ sym q
+
+pub refused-bill-unique : Unique refused-bill-kinds.ps refused-bill-kinds.r refused-bill-reads.Post
+refused-bill-unique κs a x y s t p q = p ∙ sym q
+
+pub refused-report-unique : Unique refused-report-kinds.ps refused-report-kinds.r refused-report-reads.Post
+refused-report-unique κs a x y s t p q = p ∙ sym q
