@@ -9,6 +9,9 @@ use parts::Refusal;
 // The bytes of the longest file that is taken.
 const LONGEST: usize = 20480;
 
+// The bench part.
+const BENCH: u32 = 0;
+
 // The bill of the job that a file asks for, on a blank bench part.
 fn bill_job(file: &[u8], asked: JobFile) -> Bill
     requires { asked.count ≤ 10240 }
@@ -38,5 +41,10 @@ pub fn bill_file(file: &[u8]) -> Bill
     if LONGEST < file.len() || 0 < asked.answer {
         return Bill::from(Refusal::BadFile);
     }
-    bill_job(file, asked)
+    // The other parts have other cells: told apart here, so that the job is compiled for the bench part alone.
+    match asked.part {
+        BENCH => bill_job(file, asked),
+        1..=10 => Bill::from(Refusal::WrongCells),
+        _ => Bill::from(Refusal::NoPart),
+    }
 }
