@@ -37,12 +37,13 @@ fn bill_job(file: &[u8], asked: JobFile) -> Bill
 pub fn bill_file(file: &[u8]) -> Bill
     ensures { result ≡ bill_of_file file.now }
 {
-    let asked = jobfile::read_job(file);
-    if LONGEST < file.len() || 0 < asked.answer {
+    if LONGEST < file.len() {
         return Bill::from(Refusal::BadFile);
     }
+    let asked = jobfile::read_job(file);
     // The other parts have other cells: told apart here, so that the job is compiled for the bench part alone.
     match asked.part {
+        _ if 0 < asked.answer => Bill::from(Refusal::BadFile),
         BENCH => bill_job(file, asked),
         1..=10 => Bill::from(Refusal::WrongCells),
         _ => Bill::from(Refusal::NoPart),
